@@ -1,0 +1,3 @@
+pub mod Md5
+pub mod Lent
+pub mod Example

@@ -1,0 +1,1 @@
+// Tables of numbers that follow a rule: definitions and laws for other crates, no code.
