@@ -1,7 +1,20 @@
 -- Document 01's table "Numbers said at the counter": each refusal by its meaning, and its number. Assumes nothing.
+use mathlib.Core.Path.{_≡_, refl, sym, ap, _∙_}
+use mathlib.Core.List.{List, [], _∷_}
 use Prim.Native.Nat.{ℕ}
+use lib.ListN.{getD}
 use Rattle.refusals.specs.declared.Refusal.{Refusal}
-use Rattle.refusals.specs.declared.Refusal.the-variants.{UnknownFunction, TooManyTicks, UnknownSchedule, WrongLength, BadRecord, Spent, BadGap, NoRoom, NotTaken}
+use Rattle.refusals.specs.declared.Refusal.the-variants.{
+  UnknownFunction,
+  TooManyTicks,
+  UnknownSchedule,
+  WrongLength,
+  BadRecord,
+  Spent,
+  BadGap,
+  NoRoom,
+  NotTaken,
+}
 
 abbrev pub numberOf : Refusal → ℕ
 numberOf UnknownFunction = 1
@@ -13,3 +26,29 @@ numberOf Spent = 6
 numberOf BadGap = 7
 numberOf NoRoom = 8
 numberOf NotTaken = 9
+
+-- all that the counter says: the number alone. A refusal that comes to carry a value beside its number says it here
+abbrev pub saidOf : Refusal → List ℕ
+saidOf refusal = numberOf refusal ∷ []
+
+-- what the counter says tells which refusal it is
+heard : List ℕ → Refusal
+heard said =
+    getD (NotTaken ∷ UnknownFunction ∷ TooManyTicks ∷ UnknownSchedule ∷ WrongLength ∷ BadRecord ∷ Spent ∷ BadGap ∷ NoRoom ∷ [])
+    (getD said 0 0)
+    NotTaken
+
+heard-said : (refusal : Refusal) → heard (saidOf refusal) ≡ refusal
+unfolding heard
+heard-said UnknownFunction = refl
+heard-said TooManyTicks = refl
+heard-said UnknownSchedule = refl
+heard-said WrongLength = refl
+heard-said BadRecord = refl
+heard-said Spent = refl
+heard-said BadGap = refl
+heard-said NoRoom = refl
+heard-said NotTaken = refl
+
+pub said-tells : (a b : Refusal) → saidOf a ≡ saidOf b → a ≡ b
+said-tells a b e = sym (heard-said a) ∙ ap heard e ∙ heard-said b

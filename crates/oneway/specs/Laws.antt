@@ -1,0 +1,36 @@
+-- What callers know of `width` and `step` without opening them: a step gives a value of the chain's width, and bytes stay bytes.
+-- Assumes nothing.
+use mathlib.Core.Path.{_≡_, refl}
+use mathlib.Core.List.{List, [], _∷_}
+use Prim.Native.Nat.{ℕ, zero, suc, _/_, _%_, _≤_, _<_}
+use native.Mathlib.Omega.{arith}
+use lib.ListN.{length, replicate}
+use Rattle.lists.specs.Bytes.{Bytes, bytes-none, bytes-cons, bytes-append}
+use Rattle.md5.specs.Md5.{added, blockOf}
+use Rattle.oneway.specs.declared.Chain.{Chain}
+use Rattle.oneway.specs.Step.{width, littleEndian, littleEndianWords, padded, initial, digest, stepBy, step}
+
+pub width-positive : (chain : Chain) → 0 < width chain
+unfolding width
+width-positive chain = omega arith
+
+pub width-small : (chain : Chain) → width chain ≤ 64
+unfolding width
+width-small chain = omega arith
+
+digest-length : (m : List ℕ) → length (digest m) ≡ 16
+unfolding digest littleEndianWords blockOf added
+digest-length m = refl
+
+little-endian-bytes : (n x : ℕ) → Bytes (littleEndian n x)
+little-endian-bytes zero x = bytes-none
+little-endian-bytes (suc n) x = bytes-cons (x % 256) (littleEndian n (x / 256)) (omega arith) (little-endian-bytes n (x / 256))
+
+words-bytes : (l : List ℕ) → Bytes (littleEndianWords l)
+unfolding littleEndianWords
+words-bytes [] = bytes-none
+words-bytes (x ∷ l) = bytes-append (littleEndian 4 x) (littleEndianWords l) (little-endian-bytes 4 x) (words-bytes l)
+
+digest-bytes : (m : List ℕ) → Bytes (digest m)
+unfolding digest
+digest-bytes m = words-bytes (blockOf initial (padded m))
