@@ -1,13 +1,13 @@
 -- Laws of the steps: the code's step is the definition's, and runs of steps join. Assumes nothing.
-use mathlib.Core.Path.{_≡_, refl, ap, sym, _∙_}
-use mathlib.Core.Bool.{Bool, cond}
+use mathlib.Core.Path.{_≡_, ap, sym, _∙_}
+use mathlib.Core.Bool.{Bool, _&&_}
 use mathlib.Core.List.{List, [], _∷_}
 use Prim.Native.Nat.{ℕ, zero, suc, _+_, _*_, _%_, _^_, _<_}
 use native.Mathlib.Nat.{mod-add-mod, add-assoc}
 use native.Mathlib.Omega.{arith}
 use lib.Dec.{eqb, eqb→eq, ltb, ltb→lt}
 use lib.ListN.{getD}
-use Rattle.tables.specs.Tabled.{below, both, both-left, both-right}
+use Rattle.tables.specs.Tabled.{below, and-left, and-right}
 use Rattle.md5.specs.Md5.{byRound, mix, wordNumber, additive, rotation, rotateLeft, step, stepsFrom, words, added, blockOf}
 
 -- the strides by which the code finds the message word
@@ -22,15 +22,15 @@ unfolding strides wordNumber
 stride-is i h = eqb→eq (stride i) (wordNumber i) (below strides 64 tt i h)
 
 turns : ℕ → Bool
-turns i = both (ltb 0 (rotation i)) (ltb (rotation i) 32)
+turns i = ltb 0 (rotation i) && ltb (rotation i) 32
 
 -- each step rotates by 1 to 31
 pub rotation-range : (i : ℕ) → i < 64 → (0 < rotation i) × (rotation i < 32)
 unfolding rotation turns
 rotation-range i h =
     let t = below turns 64 tt i h in (
-      ltb→lt 0 (rotation i) (both-left (ltb 0 (rotation i)) (ltb (rotation i) 32) t),
-      ltb→lt (rotation i) 32 (both-right (ltb 0 (rotation i)) (ltb (rotation i) 32) t),
+      ltb→lt 0 (rotation i) (and-left (ltb 0 (rotation i)) (ltb (rotation i) 32) t),
+      ltb→lt (rotation i) 32 (and-right (ltb 0 (rotation i)) (ltb (rotation i) 32) t),
     )
 
 -- sums that wrap one by one have wrapped once

@@ -7,6 +7,7 @@ use native.Mathlib.Omega.{arith}
 use lib.ListN.{length, replicate}
 use Rattle.lists.specs.Bytes.{Bytes, bytes-none, bytes-cons, bytes-append}
 use Rattle.md5.specs.Md5.{added, blockOf}
+use Rattle.aes.specs.Bounds.{cipher-length, cipher-bytes}
 use Rattle.oneway.specs.declared.Chain.{Chain}
 use Rattle.oneway.specs.Step.{width, littleEndian, littleEndianWords, padded, initial, digest, stepBy, step}
 
@@ -34,3 +35,23 @@ words-bytes (x ∷ l) = bytes-append (littleEndian 4 x) (littleEndianWords l) (l
 digest-bytes : (m : List ℕ) → Bytes (digest m)
 unfolding digest
 digest-bytes m = words-bytes (blockOf initial (padded m))
+
+-- a step gives a value of the same width
+pub step-length : (chain : Chain) (value : List ℕ) → length value ≡ width chain → length (step chain value) ≡ width chain
+unfolding width stepBy step
+step-length chain value e = by-function (chain .function)
+  where
+    by-function : (n : ℕ) → length (stepBy n value) ≡ 16
+    by-function zero = digest-length value
+    by-function (suc zero) = cipher-length value (replicate 16 0)
+    by-function (suc (suc n)) = e
+
+-- .. and of bytes, bytes
+pub step-bytes : (chain : Chain) (value : List ℕ) → Bytes value → Bytes (step chain value)
+unfolding stepBy step
+step-bytes chain value b = by-function (chain .function)
+  where
+    by-function : (n : ℕ) → Bytes (stepBy n value)
+    by-function zero = digest-bytes value
+    by-function (suc zero) = cipher-bytes value (replicate 16 0) (λ i l. b i)
+    by-function (suc (suc n)) = b

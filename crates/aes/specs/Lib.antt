@@ -1,0 +1,5 @@
+pub mod Aes
+pub mod Schedule
+pub mod Inverse
+pub mod Bounds
+pub mod Vectors

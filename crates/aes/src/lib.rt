@@ -1,0 +1,239 @@
+// AES-128 encryption of one block (FIPS 197). The functions have the names and do the steps of the standard. A state is the array of
+// its four columns, and a round key is sixteen bytes.
+ghost use mathlib.Core.Path.{_≡_};
+ghost use Rattle.tables.specs.Tabled.{Tabled};
+ghost use Rattle.aes.specs.Aes.{columns, bytes, xtimes, sBox, subBytes, shiftRows, mixColumn, mixColumns, addRoundKey, subWord, xorWords, rounds, cipher};
+ghost use Rattle.aes.specs.Schedule.{nextRoundKey, keyOf, RoundKeys};
+
+// 5.1.1, table 4: the entry of the byte 0xhl stands in row h, column l.
+const S_BOX: [u8; 256] = *b"\
+    \x63\x7c\x77\x7b\xf2\x6b\x6f\xc5\x30\x01\x67\x2b\xfe\xd7\xab\x76\
+    \xca\x82\xc9\x7d\xfa\x59\x47\xf0\xad\xd4\xa2\xaf\x9c\xa4\x72\xc0\
+    \xb7\xfd\x93\x26\x36\x3f\xf7\xcc\x34\xa5\xe5\xf1\x71\xd8\x31\x15\
+    \x04\xc7\x23\xc3\x18\x96\x05\x9a\x07\x12\x80\xe2\xeb\x27\xb2\x75\
+    \x09\x83\x2c\x1a\x1b\x6e\x5a\xa0\x52\x3b\xd6\xb3\x29\xe3\x2f\x84\
+    \x53\xd1\x00\xed\x20\xfc\xb1\x5b\x6a\xcb\xbe\x39\x4a\x4c\x58\xcf\
+    \xd0\xef\xaa\xfb\x43\x4d\x33\x85\x45\xf9\x02\x7f\x50\x3c\x9f\xa8\
+    \x51\xa3\x40\x8f\x92\x9d\x38\xf5\xbc\xb6\xda\x21\x10\xff\xf3\xd2\
+    \xcd\x0c\x13\xec\x5f\x97\x44\x17\xc4\xa7\x7e\x3d\x64\x5d\x19\x73\
+    \x60\x81\x4f\xdc\x22\x2a\x90\x88\x46\xee\xb8\x14\xde\x5e\x0b\xdb\
+    \xe0\x32\x3a\x0a\x49\x06\x24\x5c\xc2\xd3\xac\x62\x91\x95\xe4\x79\
+    \xe7\xc8\x37\x6d\x8d\xd5\x4e\xa9\x6c\x56\xf4\xea\x65\x7a\xae\x08\
+    \xba\x78\x25\x2e\x1c\xa6\xb4\xc6\xe8\xdd\x74\x1f\x4b\xbd\x8b\x8a\
+    \x70\x3e\xb5\x66\x48\x03\xf6\x0e\x61\x35\x57\xb9\x86\xc1\x1d\x9e\
+    \xe1\xf8\x98\x11\x69\xd9\x8e\x94\x9b\x1e\x87\xe9\xce\x55\x28\xdf\
+    \x8c\xa1\x89\x0d\xbf\xe6\x42\x68\x41\x99\x2d\x0f\xb0\x54\xbb\x16";
+
+// The whole S-box. `encrypt` binds it once and lends it down: a table that is indexed in place is copied at each index.
+fn sbox() -> [u8; 256]
+    ensures { λ r. ⌜ Tabled 256 sBox r ⌝ }
+{
+    S_BOX
+}
+
+// 4.2: the product with x. The bit that leaves picks 0x1b or 0, without a branch.
+fn xtimes(b: u8) -> u8
+    ensures { λ r. ⌜ r ≡ xtimes b ⌝ }
+{
+    (0x1b * (b >> 7)) ^ (b << 1)
+}
+
+fn sub_byte(sub: &[u8; 256], b: u8) -> u8
+    requires { ⌜ Tabled 256 sBox (now sub) ⌝ }
+    ensures { λ r. ⌜ r ≡ sBox b ⌝ }
+{
+    sub[b as usize]
+}
+
+fn sub_word(sub: &[u8; 256], a: [u8; 4]) -> [u8; 4]
+    requires { ⌜ Tabled 256 sBox (now sub) ⌝ }
+    ensures { λ r. ⌜ r ≡ subWord a ⌝ }
+{
+    let b0 = sub_byte(sub, a[0]);
+    let b1 = sub_byte(sub, a[1]);
+    let b2 = sub_byte(sub, a[2]);
+    let b3 = sub_byte(sub, a[3]);
+    [b0, b1, b2, b3]
+}
+
+fn xor_words(a: [u8; 4], b: [u8; 4]) -> [u8; 4]
+    ensures { λ r. ⌜ r ≡ xorWords a b ⌝ }
+{
+    [a[0] ^ b[0], a[1] ^ b[1], a[2] ^ b[2], a[3] ^ b[3]]
+}
+
+// 3.4: sixteen bytes as the four columns of a state, or as four words.
+fn columns(input: [u8; 16]) -> [[u8; 4]; 4]
+    ensures { λ r. ⌜ r ≡ columns input ⌝ }
+{
+    [
+        [input[0], input[1], input[2], input[3]],
+        [input[4], input[5], input[6], input[7]],
+        [input[8], input[9], input[10], input[11]],
+        [input[12], input[13], input[14], input[15]],
+    ]
+}
+
+// 3.4: the sixteen bytes of a state, column by column.
+fn bytes(s: [[u8; 4]; 4]) -> [u8; 16]
+    ensures { λ r. ⌜ r ≡ bytes s ⌝ }
+{
+    let a = s[0];
+    let b = s[1];
+    let c = s[2];
+    let d = s[3];
+    [
+        a[0],
+        a[1],
+        a[2],
+        a[3],
+        b[0],
+        b[1],
+        b[2],
+        b[3],
+        c[0],
+        c[1],
+        c[2],
+        c[3],
+        d[0],
+        d[1],
+        d[2],
+        d[3],
+    ]
+}
+
+// 5.1.1
+fn sub_bytes(sub: &[u8; 256], s: [[u8; 4]; 4]) -> [[u8; 4]; 4]
+    requires { ⌜ Tabled 256 sBox (now sub) ⌝ }
+    ensures { λ r. ⌜ r ≡ subBytes s ⌝ }
+{
+    let c0 = sub_word(sub, s[0]);
+    let c1 = sub_word(sub, s[1]);
+    let c2 = sub_word(sub, s[2]);
+    let c3 = sub_word(sub, s[3]);
+    [c0, c1, c2, c3]
+}
+
+// 5.1.2: row r, which is byte r of each column, moves r columns to the left.
+fn shift_rows(s: [[u8; 4]; 4]) -> [[u8; 4]; 4]
+    ensures { λ r. ⌜ r ≡ shiftRows s ⌝ }
+{
+    let a = s[0];
+    let b = s[1];
+    let c = s[2];
+    let d = s[3];
+    [
+        [a[0], b[1], c[2], d[3]],
+        [b[0], c[1], d[2], a[3]],
+        [c[0], d[1], a[2], b[3]],
+        [d[0], a[1], b[2], c[3]],
+    ]
+}
+
+// 5.1.3, one column: 2 times a byte is its product with x, and 3 times a byte is that and the byte.
+fn mix_column(s: [u8; 4]) -> [u8; 4]
+    ensures { λ r. ⌜ r ≡ mixColumn s ⌝ }
+{
+    let s0 = s[0];
+    let s1 = s[1];
+    let s2 = s[2];
+    let s3 = s[3];
+    let d0 = xtimes(s0);
+    let d1 = xtimes(s1);
+    let d2 = xtimes(s2);
+    let d3 = xtimes(s3);
+    [
+        d0 ^ (s1 ^ d1) ^ s2 ^ s3,
+        s0 ^ d1 ^ (s2 ^ d2) ^ s3,
+        s0 ^ s1 ^ d2 ^ (s3 ^ d3),
+        (s0 ^ d0) ^ s1 ^ s2 ^ d3,
+    ]
+}
+
+// 5.1.3
+fn mix_columns(s: [[u8; 4]; 4]) -> [[u8; 4]; 4]
+    ensures { λ r. ⌜ r ≡ mixColumns s ⌝ }
+{
+    let c0 = mix_column(s[0]);
+    let c1 = mix_column(s[1]);
+    let c2 = mix_column(s[2]);
+    let c3 = mix_column(s[3]);
+    [c0, c1, c2, c3]
+}
+
+// 5.1.4
+fn add_round_key(s: [[u8; 4]; 4], key: [u8; 16]) -> [[u8; 4]; 4]
+    ensures { λ r. ⌜ r ≡ addRoundKey s (columns key) ⌝ }
+{
+    let k = columns(key);
+    let c0 = xor_words(s[0], k[0]);
+    let c1 = xor_words(s[1], k[1]);
+    let c2 = xor_words(s[2], k[2]);
+    let c3 = xor_words(s[3], k[3]);
+    [c0, c1, c2, c3]
+}
+
+// 5.2, four words at once: a round key from the one before, with x the first byte of Rcon.
+fn next_round_key(sub: &[u8; 256], key: [u8; 16], x: u8) -> [u8; 16]
+    requires { ⌜ Tabled 256 sBox (now sub) ⌝ }
+    ensures { λ r. ⌜ columns r ≡ nextRoundKey (columns key) x ⌝ }
+{
+    let w = columns(key);
+    let last = w[3];
+    let t = sub_word(sub, [last[1], last[2], last[3], last[0]]);
+    let temp = xor_words(t, [x, 0, 0, 0]);
+    let w0 = xor_words(w[0], temp);
+    let w1 = xor_words(w[1], w0);
+    let w2 = xor_words(w[2], w1);
+    let w3 = xor_words(w[3], w2);
+    bytes([w0, w1, w2, w3])
+}
+
+// 5.2: the key itself, and ten round keys more, each from the one before.
+fn key_expansion(sub: &[u8; 256], key: [u8; 16]) -> [[u8; 16]; 11]
+    requires { ⌜ Tabled 256 sBox (now sub) ⌝ }
+    ensures { λ r. ⌜ RoundKeys 11 key r ⌝ }
+{
+    let mut keys = [[0u8; 16]; 11];
+    keys[0] = key;
+    let mut x: u8 = 1;
+    for round in 0..10 {
+        let next = next_round_key(sub, keys[round], x);
+        keys[round + 1] = next;
+        x = xtimes(x);
+    }
+    keys
+}
+
+// 5.1: a round with MixColumns.
+fn one_round(sub: &[u8; 256], s: [[u8; 4]; 4], key: [u8; 16]) -> [[u8; 4]; 4]
+    requires { ⌜ Tabled 256 sBox (now sub) ⌝ }
+    ensures { λ r. ⌜ r ≡ addRoundKey (mixColumns (shiftRows (subBytes s))) (columns key) ⌝ }
+{
+    add_round_key(mix_columns(shift_rows(sub_bytes(sub, s))), key)
+}
+
+// 5.1: the nine rounds with MixColumns.
+fn rounds(sub: &[u8; 256], keys: &[[u8; 16]; 11], first: [[u8; 4]; 4]) -> [[u8; 4]; 4]
+    requires { ⌜ Tabled 256 sBox (now sub) ⌝ }
+    ensures { λ r. ⌜ r ≡ rounds (keyOf (now (keys .entry))) first 9 ⌝ }
+{
+    let mut s = first;
+    for round in 1..10 {
+        let t = one_round(sub, s, keys[round]);
+        s = t;
+    }
+    s
+}
+
+// The cipher: `block` encrypted under `key`, for any key and any block.
+pub fn encrypt(key: [u8; 16], block: [u8; 16]) -> [u8; 16]
+    ensures { λ r. ⌜ r ≡ cipher key block ⌝ }
+{
+    let sub = sbox();
+    let keys = key_expansion(&sub, key);
+    let first = add_round_key(columns(block), keys[0]);
+    let s = rounds(&sub, &keys, first);
+    let t = add_round_key(shift_rows(sub_bytes(&sub, s)), keys[10]);
+    bytes(t)
+}
