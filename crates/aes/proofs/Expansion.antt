@@ -1,4 +1,6 @@
--- The key expansion, read four words at a time: each round key is made from the one before. Assumes nothing.
+-- The key expansion, read four words at a time. A word, once it is there, stays where it is, so the rule that makes w[i] holds of the
+-- whole list. Where i is a multiple of 4 the rule changes the word before and adds Rcon, and elsewhere it does not: that is how the
+-- code makes a round key from the one before. Assumes nothing.
 use mathlib.Core.Path.{_≡_, refl, sym, ap, ap₂, _∙_, subst}
 use mathlib.Core.List.{List, [], _∷_}
 use mathlib.Core.Logic.{⊎-elim}
@@ -80,7 +82,7 @@ round-key-next key j h =
       temp-other (4 * (j + 1) + 3) (getD (keyExpansion key) (4 * (j + 1) + 2) []) (omega arith),
     )
 
--- the first byte of Rcon goes from round to round by x
+-- the first byte of Rcon, from round to round
 pub power-next : (j : ℕ) → j < 10 → xtimes (powerOf 4 2 j) ≡ powerOf 4 2 (j + 1)
 unfolding xtimes _•_ powerOf
 power-next j h = eqb→eq (xtimes (powerOf 4 2 j)) (powerOf 4 2 (j + 1)) (below (λ k. eqb (xtimes (powerOf 4 2 k)) (powerOf 4 2 (k + 1))) 10 tt j h)

@@ -1,5 +1,6 @@
--- The cipher's result is sixteen bytes, whatever the block and the key are made of: only the key's own bytes must be bytes, since the
--- last round key holds their sums. Each step before that ends in the S-box, whose entries are bytes for any number. Assumes nothing.
+-- The cipher's result is sixteen bytes. Of the block nothing is asked: the last round begins with the S-box, whose entries are bytes
+-- for any number. Of the key its sixteen entries must be bytes: the last round key is made of them and is added behind the S-box.
+-- Assumes nothing.
 use mathlib.Core.Path.{_≡_, refl}
 use mathlib.Core.Bool.{Bool, true, false, cond}
 use mathlib.Core.List.{List, [], _∷_, _++_}
@@ -110,15 +111,28 @@ expand-bytes key p (suc n) =
 
 -- ---- the cipher
 
+sub-bytes-bytes : (s : List (List ℕ)) (r c : ℕ) → at (subBytes s) r c < 256
+unfolding subBytes
+sub-bytes-bytes s = state-bytes (λ r c. sBox (at s r c)) (λ r c l m. s-box-byte (at s r c))
+
+shift-rows-bytes : (s : List (List ℕ)) → ((r c : ℕ) → at s r c < 256) → (r c : ℕ) → at (shiftRows s) r c < 256
+unfolding shiftRows
+shift-rows-bytes s p = state-bytes (λ r c. at s r ((c + r) % 4)) (λ r c l m. p r ((c + r) % 4))
+
+add-round-key-bytes : (s k : List (List ℕ)) → ((r c : ℕ) → at s r c < 256) → ((r c : ℕ) → at k r c < 256) → (r c : ℕ) → at (addRoundKey s k) r c < 256
+unfolding addRoundKey
+add-round-key-bytes s k p q = state-bytes (λ r c. at s r c ⊕ at k r c) (λ r c l m. xor-lt 8 (at s r c) (at k r c) (p r c) (q r c))
+
+round-key-bytes : (w : List (List ℕ)) (round : ℕ) → ((r i : ℕ) → at w r i < 256) → (r c : ℕ) → at (roundKey w round) r c < 256
+unfolding roundKey
+round-key-bytes w round p r c =
+    tabulate-all Bytes [] (λ i. omega arith) 4 (λ c. getD w (4 * round + c) []) (λ c l r. p r (4 * round + c)) c r
+
 pub cipher-bytes : (key input : List ℕ) → ((i : ℕ) → i < 16 → getD key i 0 < 256) → (i : ℕ) → getD (cipher key input) i 0 < 256
-unfolding cipher addRoundKey subBytes roundKey keyExpansion
+unfolding cipher keyExpansion
 cipher-bytes key input p =
     let k = roundKey (keyExpansion key) in
-    let s = rounds k (addRoundKey (columns input) (k 0)) 9 in
-    let sub = state-bytes (λ r c. sBox (at s r c)) (λ r c l m. s-box-byte (at s r c)) in
-    let shift = state-bytes (λ r c. at (subBytes s) r ((c + r) % 4)) (λ r c l m. sub r ((c + r) % 4)) in
-    let word = tabulate-all Bytes [] (λ i. omega arith) 4 (λ c. getD (keyExpansion key) (4 * 10 + c) []) (λ c l. expand-bytes key p 40 (4 * 10 + c)) in
-    let add =
-    state-bytes (λ r c. at (shiftRows (subBytes s)) r c ⊕ at (k 10) r c)
-    (λ r c l m. xor-lt 8 (at (shiftRows (subBytes s)) r c) (at (k 10) r c) (shift r c) (word c r)) in
-    tabulate-bytes 16 _ (λ i. add (i % 4) (i / 4))
+    let s = subBytes (rounds k (addRoundKey (columns input) (k 0)) 9) in
+    let q = round-key-bytes (keyExpansion key) 10 (λ r i. expand-bytes key p 40 i r) in
+    let t = add-round-key-bytes (shiftRows s) (k 10) (shift-rows-bytes s (sub-bytes-bytes _)) q in
+    tabulate-bytes 16 _ (λ i. t (i % 4) (i / 4))

@@ -1,11 +1,11 @@
-// AES-128 encryption of one block (FIPS 197). The functions have the names and do the steps of the standard. A state is the array of
-// its four columns, and a round key is sixteen bytes.
+// AES-128 encryption of one block. The functions have the names of FIPS 197 and do its steps; a number such as 5.1.1 is a section there.
+// A state is the array of its four columns, and a round key is sixteen bytes. `sub` is the S-box, lent.
 ghost use mathlib.Core.Path.{_≡_};
 ghost use Rattle.tables.specs.Tabled.{Tabled};
 ghost use Rattle.aes.specs.Aes.{columns, bytes, xtimes, sBox, subBytes, shiftRows, mixColumn, mixColumns, addRoundKey, subWord, xorWords, rounds, cipher};
 ghost use Rattle.aes.specs.Schedule.{nextRoundKey, keyOf, RoundKeys};
 
-// 5.1.1, table 4: the entry of the byte 0xhl stands in row h, column l.
+// 5.1.1, table 4: a row of sixteen for each high half of a byte.
 const S_BOX: [u8; 256] = *b"\
     \x63\x7c\x77\x7b\xf2\x6b\x6f\xc5\x30\x01\x67\x2b\xfe\xd7\xab\x76\
     \xca\x82\xc9\x7d\xfa\x59\x47\xf0\xad\xd4\xa2\xaf\x9c\xa4\x72\xc0\
@@ -24,20 +24,22 @@ const S_BOX: [u8; 256] = *b"\
     \xe1\xf8\x98\x11\x69\xd9\x8e\x94\x9b\x1e\x87\xe9\xce\x55\x28\xdf\
     \x8c\xa1\x89\x0d\xbf\xe6\x42\x68\x41\x99\x2d\x0f\xb0\x54\xbb\x16";
 
-// The whole S-box. `encrypt` binds it once and lends it down: a table that is indexed in place is copied at each index.
+// 5.1.1: the whole S-box. `encrypt` binds it once and lends it on, since a constant table that is indexed where it stands is copied
+// each time.
 fn sbox() -> [u8; 256]
     ensures { λ r. ⌜ Tabled 256 sBox r ⌝ }
 {
     S_BOX
 }
 
-// 4.2: the product with x. The bit that leaves picks 0x1b or 0, without a branch.
+// 4.2: the product with x. The bit that is shifted out takes 0x1b or nothing, with no branch.
 fn xtimes(b: u8) -> u8
     ensures { λ r. ⌜ r ≡ xtimes b ⌝ }
 {
     (0x1b * (b >> 7)) ^ (b << 1)
 }
 
+// 5.1.1: the S-box of a byte.
 fn sub_byte(sub: &[u8; 256], b: u8) -> u8
     requires { ⌜ Tabled 256 sBox (now sub) ⌝ }
     ensures { λ r. ⌜ r ≡ sBox b ⌝ }
@@ -45,6 +47,7 @@ fn sub_byte(sub: &[u8; 256], b: u8) -> u8
     sub[b as usize]
 }
 
+// 5.2: the S-box of each byte of a word.
 fn sub_word(sub: &[u8; 256], a: [u8; 4]) -> [u8; 4]
     requires { ⌜ Tabled 256 sBox (now sub) ⌝ }
     ensures { λ r. ⌜ r ≡ subWord a ⌝ }
@@ -56,13 +59,14 @@ fn sub_word(sub: &[u8; 256], a: [u8; 4]) -> [u8; 4]
     [b0, b1, b2, b3]
 }
 
+// 4.1: the sum of two words, byte by byte.
 fn xor_words(a: [u8; 4], b: [u8; 4]) -> [u8; 4]
     ensures { λ r. ⌜ r ≡ xorWords a b ⌝ }
 {
     [a[0] ^ b[0], a[1] ^ b[1], a[2] ^ b[2], a[3] ^ b[3]]
 }
 
-// 3.4: sixteen bytes as the four columns of a state, or as four words.
+// 3.4: sixteen bytes as a state, or as four words.
 fn columns(input: [u8; 16]) -> [[u8; 4]; 4]
     ensures { λ r. ⌜ r ≡ columns input ⌝ }
 {
@@ -102,7 +106,7 @@ fn bytes(s: [[u8; 4]; 4]) -> [u8; 16]
     ]
 }
 
-// 5.1.1
+// 5.1.1: the S-box of each byte of a state.
 fn sub_bytes(sub: &[u8; 256], s: [[u8; 4]; 4]) -> [[u8; 4]; 4]
     requires { ⌜ Tabled 256 sBox (now sub) ⌝ }
     ensures { λ r. ⌜ r ≡ subBytes s ⌝ }
@@ -130,7 +134,7 @@ fn shift_rows(s: [[u8; 4]; 4]) -> [[u8; 4]; 4]
     ]
 }
 
-// 5.1.3, one column: 2 times a byte is its product with x, and 3 times a byte is that and the byte.
+// 5.1.3: one column mixed. Twice a byte is its product with x, and three times a byte is that and the byte.
 fn mix_column(s: [u8; 4]) -> [u8; 4]
     ensures { λ r. ⌜ r ≡ mixColumn s ⌝ }
 {
@@ -150,7 +154,7 @@ fn mix_column(s: [u8; 4]) -> [u8; 4]
     ]
 }
 
-// 5.1.3
+// 5.1.3: each column mixed.
 fn mix_columns(s: [[u8; 4]; 4]) -> [[u8; 4]; 4]
     ensures { λ r. ⌜ r ≡ mixColumns s ⌝ }
 {
@@ -161,7 +165,7 @@ fn mix_columns(s: [[u8; 4]; 4]) -> [[u8; 4]; 4]
     [c0, c1, c2, c3]
 }
 
-// 5.1.4
+// 5.1.4: the state and a round key, added.
 fn add_round_key(s: [[u8; 4]; 4], key: [u8; 16]) -> [[u8; 4]; 4]
     ensures { λ r. ⌜ r ≡ addRoundKey s (columns key) ⌝ }
 {
@@ -173,15 +177,16 @@ fn add_round_key(s: [[u8; 4]; 4], key: [u8; 16]) -> [[u8; 4]; 4]
     [c0, c1, c2, c3]
 }
 
-// 5.2, four words at once: a round key from the one before, with x the first byte of Rcon.
-fn next_round_key(sub: &[u8; 256], key: [u8; 16], x: u8) -> [u8; 16]
+// 5.2, four words at once: a round key from the one before. `rcon` is the first byte of Rcon, the others being 0.
+fn next_round_key(sub: &[u8; 256], key: [u8; 16], rcon: u8) -> [u8; 16]
     requires { ⌜ Tabled 256 sBox (now sub) ⌝ }
-    ensures { λ r. ⌜ columns r ≡ nextRoundKey (columns key) x ⌝ }
+    ensures { λ r. ⌜ columns r ≡ nextRoundKey (columns key) rcon ⌝ }
 {
     let w = columns(key);
     let last = w[3];
+    // RotWord, then SubWord
     let t = sub_word(sub, [last[1], last[2], last[3], last[0]]);
-    let temp = xor_words(t, [x, 0, 0, 0]);
+    let temp = xor_words(t, [rcon, 0, 0, 0]);
     let w0 = xor_words(w[0], temp);
     let w1 = xor_words(w[1], w0);
     let w2 = xor_words(w[2], w1);
@@ -189,23 +194,23 @@ fn next_round_key(sub: &[u8; 256], key: [u8; 16], x: u8) -> [u8; 16]
     bytes([w0, w1, w2, w3])
 }
 
-// 5.2: the key itself, and ten round keys more, each from the one before.
+// 5.2: the key, which is round key 0, and ten round keys more, each from the one before.
 fn key_expansion(sub: &[u8; 256], key: [u8; 16]) -> [[u8; 16]; 11]
     requires { ⌜ Tabled 256 sBox (now sub) ⌝ }
     ensures { λ r. ⌜ RoundKeys 11 key r ⌝ }
 {
     let mut keys = [[0u8; 16]; 11];
     keys[0] = key;
-    let mut x: u8 = 1;
+    let mut rcon: u8 = 1;
     for round in 0..10 {
-        let next = next_round_key(sub, keys[round], x);
+        let next = next_round_key(sub, keys[round], rcon);
         keys[round + 1] = next;
-        x = xtimes(x);
+        rcon = xtimes(rcon);
     }
     keys
 }
 
-// 5.1: a round with MixColumns.
+// 5.1: a round, as all are but the last.
 fn one_round(sub: &[u8; 256], s: [[u8; 4]; 4], key: [u8; 16]) -> [[u8; 4]; 4]
     requires { ⌜ Tabled 256 sBox (now sub) ⌝ }
     ensures { λ r. ⌜ r ≡ addRoundKey (mixColumns (shiftRows (subBytes s))) (columns key) ⌝ }
@@ -213,7 +218,7 @@ fn one_round(sub: &[u8; 256], s: [[u8; 4]; 4], key: [u8; 16]) -> [[u8; 4]; 4]
     add_round_key(mix_columns(shift_rows(sub_bytes(sub, s))), key)
 }
 
-// 5.1: the nine rounds with MixColumns.
+// 5.1: rounds 1 to 9, from the state to which round key 0 was added.
 fn rounds(sub: &[u8; 256], keys: &[[u8; 16]; 11], first: [[u8; 4]; 4]) -> [[u8; 4]; 4]
     requires { ⌜ Tabled 256 sBox (now sub) ⌝ }
     ensures { λ r. ⌜ r ≡ rounds (keyOf (now (keys .entry))) first 9 ⌝ }
@@ -226,7 +231,7 @@ fn rounds(sub: &[u8; 256], keys: &[[u8; 16]; 11], first: [[u8; 4]; 4]) -> [[u8; 
     s
 }
 
-// The cipher: `block` encrypted under `key`, for any key and any block.
+// 5.1: a block encrypted under a key, any block and any key. The last round mixes no columns.
 pub fn encrypt(key: [u8; 16], block: [u8; 16]) -> [u8; 16]
     ensures { λ r. ⌜ r ≡ cipher key block ⌝ }
 {

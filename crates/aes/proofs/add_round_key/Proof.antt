@@ -1,4 +1,4 @@
--- `aes::add_round_key` meets its contract. Assumes nothing.
+-- `aes::add_round_key` meets its contract: each call gives a column of the sum. Assumes nothing.
 use borrow.Author.Needs.{needs}
 use Rattle.aes.specs.Aes.{addRoundKey, xorWords}
 use Rattle.aes.proofs.add_round_key.Statement.{statement}

@@ -19,22 +19,14 @@ returns c =
     let s = b .before .before in
     let f = s .before .before .before in
     let i = f .before .before in
-    let k = i .before in
-    let same = k .key-expansion .ensures .at in
-    let key = k .before .before .before .args .key in
-    c .bytes .ensures
-    ∙ ap bytes
-    (t .add-round-key2 .ensures
-    ∙ ap₂ addRoundKey
-    (h .shift-rows .ensures
-    ∙ ap (λ (x : List (List ℕ)). shiftRows x)
-    (b .sub-bytes .ensures
-    ∙ ap subBytes
-    (s .rounds .ensures
-    ∙ ap (λ (x : List (List ℕ)). rounds (keyOf (k .key-expansion .result)) x 9)
-    (f .add-round-key .ensures ∙ ap₂ addRoundKey (i .columns .ensures) (same 0 (omega arith)))
-    ∙ rounds-same (keyOf (k .key-expansion .result)) (roundKey (keyExpansion key)) _ 9 (λ j l. same j (omega arith)))))
-    (same 10 (omega arith)))
+    let e = i .before in
+    let keys = e .key-expansion .result in
+    let k = roundKey (keyExpansion (e .before .before .before .args .key)) in
+    let same = e .key-expansion .ensures .at in
+    let first = f .add-round-key .ensures ∙ ap₂ addRoundKey (i .columns .ensures) (same 0 (omega arith)) in
+    let nine = s .rounds .ensures ∙ rounds-same (keyOf keys) k _ 9 (λ j l. same j (omega arith)) ∙ ap (λ (x : List (List ℕ)). rounds k x 9) first in
+    let shifted = h .shift-rows .ensures ∙ ap shiftRows (b .sub-bytes .ensures ∙ ap subBytes nine) in
+    c .bytes .ensures ∙ ap bytes (t .add-round-key2 .ensures ∙ ap₂ addRoundKey shifted (same 10 (omega arith)))
 
 pub encrypt-spec : {M : Type 1} → statement M
 encrypt-spec =

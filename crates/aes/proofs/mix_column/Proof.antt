@@ -1,4 +1,4 @@
--- `aes::mix_column` meets its contract. Assumes nothing.
+-- `aes::mix_column` meets its contract: the definition's products with 2 and 3 are the terms that the code adds. Assumes nothing.
 use borrow.Author.Needs.{needs}
 use Rattle.aes.specs.Aes.{mixColumn}
 use Rattle.aes.proofs.Laws.{twice, thrice}

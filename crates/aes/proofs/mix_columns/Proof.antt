@@ -1,4 +1,4 @@
--- `aes::mix_columns` meets its contract. Assumes nothing.
+-- `aes::mix_columns` meets its contract: each call gives a column of the definition. Assumes nothing.
 use borrow.Author.Needs.{needs}
 use Rattle.aes.specs.Aes.{mixColumns}
 use Rattle.aes.proofs.mix_columns.Statement.{statement}

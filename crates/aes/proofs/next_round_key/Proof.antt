@@ -1,4 +1,5 @@
--- `aes::next_round_key` meets its contract. Assumes nothing.
+-- `aes::next_round_key` meets its contract: the code makes the definition's words in its order, and their bytes are the words again.
+-- Assumes nothing.
 use borrow.Author.Needs.{needs}
 use Rattle.aes.specs.Aes.{rotWord, xorWords}
 use Rattle.aes.specs.Schedule.{nextRoundKey}

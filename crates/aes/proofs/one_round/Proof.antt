@@ -1,4 +1,4 @@
--- `aes::one_round` meets its contract. Assumes nothing.
+-- `aes::one_round` meets its contract: each call is the step of its name. Assumes nothing.
 use borrow.Author.Needs.{needs}
 use Rattle.aes.proofs.one_round.Statement.{statement}
 use Rattle.aes.proofs.one_round.Tie as tie

@@ -20,21 +20,6 @@ loop-holds : tie.Need-loop-holds Inv-loop μ-loop
 unfolding rounds
 loop-holds c = (search needs, search needs, refl)
 
-mul-one-round : tie.Need-mul-one-round Inv-loop μ-loop
-mul-one-round c = search needs
-
-element-copy-out-one-round : tie.Need-element-copy-out-one-round Inv-loop μ-loop
-element-copy-out-one-round c = search needs
-
-one-round-requires : tie.Need-one-round-requires Inv-loop μ-loop
-one-round-requires c κs = search needs
-
-add-round : tie.Need-add-round Inv-loop μ-loop
-add-round c = search needs
-
-loop-less : tie.Need-loop-less Inv-loop μ-loop
-loop-less c = search needs
-
 loop-again : tie.Need-loop-again Inv-loop μ-loop
 loop-again c =
     let o = c .before .before .before in
@@ -56,10 +41,7 @@ rounds-spec =
     Inv-loop
     μ-loop
     loop-holds
-    mul-one-round
-    element-copy-out-one-round
-    one-round-requires
-    add-round
-    loop-less
+    (λ c. search needs) (λ c. search needs) (λ c κs. search needs) (λ c. search needs)
+    (λ c. search needs)
     loop-again
     returns)

@@ -1,4 +1,4 @@
--- `aes::sub_bytes` meets its contract. Assumes nothing.
+-- `aes::sub_bytes` meets its contract: each call gives a column of the definition. Assumes nothing.
 use borrow.Author.Needs.{needs}
 use Rattle.aes.specs.Aes.{subWord, subBytes}
 use Rattle.aes.proofs.sub_bytes.Statement.{statement}

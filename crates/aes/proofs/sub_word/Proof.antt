@@ -1,4 +1,4 @@
--- `aes::sub_word` meets its contract. Assumes nothing.
+-- `aes::sub_word` meets its contract: each call gives the S-box of its byte. Assumes nothing.
 use borrow.Author.Needs.{needs}
 use Rattle.aes.specs.Aes.{subWord}
 use Rattle.aes.proofs.sub_word.Statement.{statement}

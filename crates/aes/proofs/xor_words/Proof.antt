@@ -1,4 +1,4 @@
--- `aes::xor_words` meets its contract. Assumes nothing.
+-- `aes::xor_words` meets its contract: the definition has the code's operators in the code's order. Assumes nothing.
 use mathlib.Core.Path.{refl}
 use borrow.Author.Needs.{needs}
 use Rattle.aes.specs.Aes.{xorWords}
