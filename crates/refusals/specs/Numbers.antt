@@ -1,7 +1,9 @@
 -- Document 01's table "Numbers said at the counter": each refusal by its meaning, and its number. Assumes nothing.
 use mathlib.Core.Path.{_≡_, refl, sym, ap, _∙_}
+use mathlib.Core.Bool.{false}
 use mathlib.Core.List.{List, [], _∷_}
 use Prim.Native.Nat.{ℕ}
+use lib.Dec.{eqb}
 use lib.ListN.{getD}
 use Rattle.refusals.specs.declared.Refusal.{Refusal}
 use Rattle.refusals.specs.declared.Refusal.the-variants.{
@@ -30,6 +32,18 @@ numberOf NotTaken = 9
 -- all that the counter says: the number alone. A refusal that comes to carry a value beside its number says it here
 abbrev pub saidOf : Refusal → List ℕ
 saidOf refusal = numberOf refusal ∷ []
+
+-- 0 is no refusal's number: it is what an answer that is none begins with
+pub number-not-0 : (refusal : Refusal) → eqb (numberOf refusal) 0 ≡ false
+number-not-0 UnknownFunction = refl
+number-not-0 TooManyTicks = refl
+number-not-0 UnknownSchedule = refl
+number-not-0 WrongLength = refl
+number-not-0 BadRecord = refl
+number-not-0 Spent = refl
+number-not-0 BadGap = refl
+number-not-0 NoRoom = refl
+number-not-0 NotTaken = refl
 
 -- what the counter says tells which refusal it is
 heard : List ℕ → Refusal

@@ -1,0 +1,4 @@
+pub mod HashLaws
+pub mod TallyLaws
+pub mod ListLaws
+pub mod PositionLaws

@@ -1,0 +1,94 @@
+-- What each way out of the position list comes to: the tests on the way there pick the case of the definition. Assumes nothing.
+use mathlib.Core.Path.{_≡_, refl, sym, ap, _∙_}
+use mathlib.Core.List.{List, [], _∷_, _++_}
+use Prim.Native.Nat.{ℕ, suc, _+_, _-_, _^_, _≤_, _<_}
+use native.Mathlib.Omega.{arith}
+use borrow.Author.Tests.{lt-ltb, le-ltb, eq-eqb, ne-eqb}
+use lib.ListN.{length, take, drop}
+use lib.Seq.{sets-eq}
+use lib.Pow.{pow-pos, pow-mono}
+use Rattle.lists.specs.Writing.{over}
+use Rattle.refusals.specs.Numbers.{saidOf, number-not-0}
+use Rattle.refusals.specs.declared.Refusal.{Refusal}
+use Rattle.refusals.specs.declared.Refusal.the-variants.{TooManyTicks, UnknownSchedule, WrongLength, BadRecord}
+use Rattle.pebbling.specs.declared.PositionsAnswer.the-variants.{Listed, Refused}
+use Rattle.pebbling.specs.Recursion.{schedule, positions, work}
+use Rattle.pebbling.specs.SideBySide.{positions-ended, work-ended}
+use Rattle.pebbling.specs.Promises.{Power, Tallied, Written}
+use Rattle.pebbling.specs.PositionList.{positionsSays, positionsLeft, Positioned}
+use Rattle.pebbling.proofs.HashLaws.{next-power}
+
+module _ (k s r : ℕ) (list : List ℕ) where
+  refused : (why : Refusal) → positionsSays k s r list ≡ saidOf why → Positioned k s r list (Refused why) list
+  unfolding positionsLeft
+  refused why e = record { says = sym e; leaves = rw (e, number-not-0 why) refl }
+
+  pub refused-k : 20 < k → Positioned k s r list (Refused TooManyTicks) list
+  unfolding positionsSays
+  refused-k h = refused TooManyTicks (simp (lt-ltb 20 k h))
+
+  module _ (k≤20 : k ≤ 20) where
+    pub refused-schedule : 3 < s → Positioned k s r list (Refused UnknownSchedule) list
+    unfolding positionsSays
+    refused-schedule h = refused UnknownSchedule (simp (le-ltb 20 k k≤20, lt-ltb 3 s h))
+
+    module _ (s≤3 : s ≤ 3) where
+      pub refused-zero : r ≡ 0 → Positioned k s r list (Refused BadRecord) list
+      unfolding positionsSays
+      refused-zero e = refused BadRecord (simp (le-ltb 20 k k≤20, le-ltb 3 s s≤3, eq-eqb r 0 e))
+
+      module _ (r≢0 : r ≡ 0 → ⊥) (end : ℕ) (p : Power (k + 1) end) where
+        pub refused-late : end < r → Positioned k s r list (Refused BadRecord) list
+        unfolding positionsSays
+        refused-late h =
+            refused BadRecord (simp (le-ltb 20 k k≤20, le-ltb 3 s s≤3, ne-eqb r 0 r≢0, lt-ltb (2 ^ suc k) r (omega (arith, next-power k end p))))
+
+        module _ (in-time : r ≤ end) where
+          -- refusal 4 is all that may still come
+          by-length : (b : ℕ) → length (positions (schedule s) k r 0) ≡ b → length list < b → Positioned k s r list (Refused WrongLength) list
+          unfolding positionsSays
+          by-length b e h =
+              refused WrongLength (simp (
+                le-ltb 20 k k≤20,
+                le-ltb 3 s s≤3,
+                ne-eqb r 0 r≢0,
+                le-ltb (2 ^ suc k) r (omega (arith, next-power k end p)),
+                lt-ltb (length list) (length (positions (schedule s) k r 0)) (omega arith),
+              ))
+
+          listed : (n w : ℕ) (list′ : List ℕ) → n ≡ length (positions (schedule s) k r 0) → w ≡ work (schedule s) k r → n ≤ length list
+              → list′ ≡ over (positions (schedule s) k r 0) list → Positioned k s r list (Listed n w) list′
+          unfolding positionsSays positionsLeft
+          listed n w list′ a b h e =
+              let t : positionsSays k s r list ≡ 0 ∷ length (positions (schedule s) k r 0) ∷ work (schedule s) k r ∷ [] =
+              simp (
+                le-ltb 20 k k≤20,
+                le-ltb 3 s s≤3,
+                ne-eqb r 0 r≢0,
+                le-ltb (2 ^ suc k) r (omega (arith, next-power k end p)),
+                le-ltb (length list) (length (positions (schedule s) k r 0)) (omega arith),
+              ) in
+              record { says = rw (a, b) (sym t); leaves = rw t e }
+
+          -- all rounds are run, and nothing is held
+          pub listed-none : r ≡ end → Positioned k s r list (Listed 0 0) list
+          listed-none e =
+              let n : positions (schedule s) k r 0 ≡ [] = positions-ended (schedule s) k r 0 (omega (arith, next-power k end p)) in
+              listed 0 0 list (sym (ap length n)) (sym (work-ended (schedule s) k r (omega (arith, next-power k end p)))) (omega arith) (rw n refl)
+
+          module _ (not-end : r ≡ end → ⊥) where
+            pub round-asked : (0 < r) × (r < 2 ^ suc k)
+            round-asked = (omega arith, omega (arith, next-power k end p))
+
+            module _ (n a w : ℕ) (t : Tallied s k r n a w) where
+              pub refused-length : length list < n → Positioned k s r list (Refused WrongLength) list
+              refused-length h = by-length n (sym (t .holds)) h
+
+              module _ (room : n ≤ length list) where
+                pub list-asked : (0 + 2 ^ k ≤ 1048576) × (0 + length (positions (schedule s) k r 0) ≤ length list)
+                list-asked = (omega (arith, pow-mono {i = k} {j = 20} k≤20), omega (arith, t .holds))
+
+                pub listed-all : (next : ℕ) (list′ : List ℕ) → Written (positions (schedule s) k r 0) 0 list next list′ → Positioned k s r list (Listed n w) list′
+                listed-all next list′ x =
+                    let z : 0 + length (positions (schedule s) k r 0) ≡ length (positions (schedule s) k r 0) = omega arith in
+                    listed n w list′ (t .holds) (t .does) room (x .holds ∙ rw z at (sets-eq (positions (schedule s) k r 0) list 0 (list-asked .1)))

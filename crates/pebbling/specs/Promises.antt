@@ -1,0 +1,55 @@
+-- What the functions on numbers promise: the definition that their result equals, and the bounds by which their callers' sums fit. Assumes nothing.
+use mathlib.Core.Path.{_≡_}
+use mathlib.Core.List.{List}
+use Prim.Native.Nat.{ℕ, suc, _+_, _^_, _≤_, _<_}
+use lib.ListN.{length}
+use lib.Seq.{sets}
+use Rattle.pebbling.specs.Len.{len}
+use Rattle.pebbling.specs.OptimalLeft.{g}
+use Rattle.pebbling.specs.Recursion.{done, held, schedule, positions, work}
+
+pub record Power (k p : ℕ) : Type 0 where
+  pub is : p ≡ 2 ^ k
+  pub pos : 0 < p
+  pub small : p ≤ 2097152
+
+pub record Bits (x n : ℕ) : Type 0 where
+  pub is : n ≡ len x
+  pub small : n ≤ 32
+
+-- round r and c rounds left, that one included
+pub record Left (k r c : ℕ) : Type 0 where
+  pub whole : r + c ≡ 2 ^ suc k
+
+pub record Curve (k n r : ℕ) : Type 0 where
+  pub is : r ≡ g k n
+  pub small : r ≤ 67108864
+
+-- the hashes done before round r of P_k
+pub record Done (t : ℕ → ℕ → ℕ) (k r h : ℕ) : Type 0 where
+  pub is : h ≡ done t k r
+  pub small : h < 2 ^ k
+
+-- how many values P_k holds after h hashes
+pub record Holds (k h n : ℕ) : Type 0 where
+  pub is : n ≡ length (held k h 0)
+  pub some : 0 < n
+  pub small : n ≤ k + 1
+
+-- two numbers whose sum fits a u32
+abbrev pub Fitting : ℕ → ℕ → Type 0
+Fitting a b = a + b ≤ 4294967295
+
+-- P_k in its round r, its children with it: the values held before the round and after it, and its hashes
+pub record Tallied (s k r before after works : ℕ) : Type 0 where
+  pub holds : before ≡ length (positions (schedule s) k r 0)
+  pub leaves : after ≡ length (positions (schedule s) k (suc r) 0)
+  pub does : works ≡ work (schedule s) k r
+  pub few : before ≤ 41
+  pub fewer : after ≤ 41
+  pub small : works < 2 ^ k
+
+-- `ps` stored into a list from entry `at` on
+pub record Written (ps : List ℕ) (at : ℕ) (list : List ℕ) (end : ℕ) (list′ : List ℕ) : Type 0 where
+  pub ends : end ≡ at + length ps
+  pub holds : list′ ≡ sets list at ps
