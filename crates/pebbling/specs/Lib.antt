@@ -3,6 +3,7 @@ pub mod Recursion
 pub mod Cases
 pub mod OnePebbler
 pub mod SideBySide
+pub mod RoundsLeft
 pub mod Turns
 pub mod OptimalLeft
 pub mod HashesDone
