@@ -15,7 +15,7 @@ pub width-positive : (chain : Chain) → 0 < width chain
 unfolding width
 width-positive chain = omega arith
 
-pub width-small : (chain : Chain) → width chain ≤ 64
+pub width-small : (chain : Chain) → width chain ≤ 16
 unfolding width
 width-small chain = omega arith
 
