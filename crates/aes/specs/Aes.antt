@@ -136,6 +136,7 @@ expand key (suc n) =
     let w = expand key n in
     w ++ (xorWords (getD w n []) (temp (n + 4) (getD w (n + 3) [])) ∷ [])
 
+-- w[0] to w[43]
 unfoldable pub keyExpansion : List ℕ → List (List ℕ)
 keyExpansion key = expand key 40
 
@@ -150,6 +151,7 @@ unfoldable pub rounds : (ℕ → List (List ℕ)) → List (List ℕ) → ℕ �
 rounds k s zero = s
 rounds k s (suc n) = addRoundKey (mixColumns (shiftRows (subBytes (rounds k s n)))) (k (suc n))
 
+-- the initial AddRoundKey, nine rounds, and a last one without MixColumns
 unfoldable pub cipher : List ℕ → List ℕ → List ℕ
 cipher key input =
     let k = roundKey (keyExpansion key) in

@@ -7,12 +7,11 @@ use native.Mathlib.Omega.{arith}
 use borrow.Author.Tests.{lt-ltb, le-ltb, eq-eqb, ne-eqb}
 use lib.Pow.{pow-pos, pow-mono, pow-lt}
 use lib.Count.{leadingZeros, leading-length}
-use lib.ListN.{length}
-use Rattle.pebbling.specs.Len.{len, len-law, len-le, lt-len, len-unique, len-zero, len-pos, len-pow, two-halves, not-zero}
+use Rattle.pebbling.specs.Len.{len, len-law, len-le, lt-len, len-unique, len-zero, len-pos, len-pow, two-halves}
 use Rattle.pebbling.specs.OptimalLeft.{g, left, twiceLeft, left-fits}
-use Rattle.pebbling.specs.HashesDone.{fair, done-rushing, done-speed1, done-speed2-early, done-speed2-late, done-optimal-early, done-optimal-late, done-all, done-lt}
+use Rattle.pebbling.specs.HashesDone.{fair, done-rushing, done-speed1, done-speed2-early, done-speed2-late, done-optimal-early, done-optimal-late, done-all}
 use Rattle.pebbling.specs.OnePebbler.{held-length}
-use Rattle.pebbling.specs.Recursion.{schedule, rushing, speed1, speed2, optimal, done}
+use Rattle.pebbling.specs.Recursion.{schedule, rushing, speed1, speed2, optimal}
 use Rattle.pebbling.specs.Promises.{Power, Bits, Left, Curve, Done, Holds}
 
 -- ---- powers and lengths

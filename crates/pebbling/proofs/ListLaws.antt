@@ -2,15 +2,14 @@
 -- Assumes nothing.
 use mathlib.Core.Path.{_≡_, refl, sym, ap, _∙_}
 use mathlib.Core.List.{List, [], _∷_, _++_}
-use Prim.Native.Nat.{ℕ, zero, suc, _+_, _-_, _*_, _^_, _≤_, _<_}
-use native.Mathlib.Nat.{add-zero, add-suc}
+use Prim.Native.Nat.{ℕ, suc, _+_, _-_, _*_, _^_, _≤_, _<_}
+use native.Mathlib.Nat.{add-zero}
 use native.Mathlib.Numerals.{add-one}
 use native.Mathlib.Omega.{arith}
 use lib.ListN.{length, set, length-append, length-set}
 use lib.Seq.{sets, length-sets}
-use lib.Pow.{pow-pos, pow-mono}
 use Rattle.pebbling.specs.Len.{len, len-le, lt-len}
-use Rattle.pebbling.specs.Recursion.{schedule, done, place, held, positions}
+use Rattle.pebbling.specs.Recursion.{place, held, positions}
 use Rattle.pebbling.specs.OnePebbler.{places, Newest, newest, newest-len, held-form, held-length}
 use Rattle.pebbling.specs.SideBySide.{positions-itself, positions-split, positions-ended}
 use Rattle.pebbling.specs.Promises.{Power, Bits, Done, Written}

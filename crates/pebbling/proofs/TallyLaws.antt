@@ -2,17 +2,15 @@
 -- room of a card. Assumes nothing.
 use mathlib.Core.Path.{_≡_, refl, sym, ap, _∙_}
 use mathlib.Core.Bool.{Bool, true, false, cond}
-use mathlib.Core.List.{List, _++_}
 use Prim.Native.Nat.{ℕ, zero, suc, _+_, _-_, _*_, _^_, _≤_, _<_, max}
 use native.Mathlib.Nat.{add-suc}
 use native.Mathlib.Omega.{arith}
 use lib.Dec.{eqb}
 use lib.ListN.{length, length-append}
 use lib.Pow.{pow-mono}
-use Rattle.pebbling.specs.Len.{two-halves, not-zero}
 use Rattle.pebbling.specs.Recursion.{schedule, slots, done, held, positions, work}
 use Rattle.pebbling.specs.SideBySide.{positions-itself, positions-children, positions-split, positions-length, positions-ended, work-prepare, work-out, work-split, work-ended}
-use Rattle.pebbling.specs.OnePebbler.{places, places-length, held-all}
+use Rattle.pebbling.specs.OnePebbler.{places-length, held-all}
 use Rattle.pebbling.specs.HashesDone.{fair, done-all, done-suc, done-fits}
 use Rattle.pebbling.specs.ChainRound.{children-begin}
 use Rattle.pebbling.specs.Slots.{enough-slots}

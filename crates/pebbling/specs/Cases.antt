@@ -1,7 +1,7 @@
 -- Document 01's twelve cases, on both sides of the edges: one table with one proof, by computing the definitions. Assumes nothing.
 use mathlib.Core.Path.{_≡_, refl}
 use mathlib.Core.List.{List, [], _∷_, _++_, map, flatMap, zipWith}
-use Prim.Native.Nat.{ℕ, zero, suc}
+use Prim.Native.Nat.{ℕ, suc}
 use lib.ListN.{length}
 use Rattle.pebbling.specs.Len.{len, lenIn}
 use Rattle.pebbling.specs.Recursion.{

@@ -7,12 +7,12 @@ use Prim.Native.Nat.{ℕ, zero, suc, _+_, _-_, _^_, _≤_, _<_}
 use native.Mathlib.Nat.{eq-or-lt-of-le}
 use native.Mathlib.Numerals.{one-add}
 use native.Mathlib.Omega.{arith}
-use lib.ListN.{length, take, drop, length-append, length-map}
+use lib.ListN.{length, take, drop, length-map}
 use lib.Seq.{take-at, drop-at}
 use lib.Pow.{pow-pos}
 use Rattle.pebbling.specs.Len.{lt-or-le}
 use Rattle.pebbling.specs.Recursion.{done, place, held, hashes, positions, tick, round, before, chain}
-use Rattle.pebbling.specs.SideBySide.{held-base, sidePositions, positions-itself, positions-children, sidePositions-zero, sidePositions-both, sidePositions-last, sidePositions-late, sideHeld, side-length}
+use Rattle.pebbling.specs.SideBySide.{sidePositions, positions-itself, positions-children, sidePositions-zero, sidePositions-both, sidePositions-last, sidePositions-late, sideHeld, side-length}
 use Rattle.pebbling.specs.Turns.{sideRound, round-prepare, round-out, round-children, sideRound-both, sideRound-last, sideRound-late, tick-first}
 use Rattle.pebbling.specs.OnePebbler.{places, places-snoc, places-upper, held-none, held-all, held-hashes}
 use Rattle.pebbling.specs.HashesDone.{Fair, done-first, done-suc, done-all, done-fits}

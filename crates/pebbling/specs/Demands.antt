@@ -1,12 +1,12 @@
 -- What document 01 asks of a card of 2^k ticks, as plain statements about the definitions of Recursion, under each of the four schedules and for every k.
 -- Round numbers run from 1 to 2^(k+1) - 1; c stands for the rounds left after the round, so r + c + 1 is 2^(k+1). Assumes nothing.
 use mathlib.Core.Path.{_≡_, refl, sym, ap, _∙_}
-use mathlib.Core.List.{List, [], _∷_, map}
+use mathlib.Core.List.{[], _∷_, map}
 use Prim.Native.Nat.{ℕ, zero, suc, _+_, _-_, _*_, _/_, _^_, _≤_, _<_}
 use native.Mathlib.Nat.{pow-succ'}
 use native.Mathlib.Omega.{arith}
 use lib.ListN.{length, take}
-use Rattle.pebbling.specs.Recursion.{row, sum, total, optimal, schedule, T, W, putOut, positions, work, tick, round, before, chain, slots}
+use Rattle.pebbling.specs.Recursion.{row, sum, total, schedule, T, W, putOut, positions, work, tick, round, before, chain, slots}
 use Rattle.pebbling.specs.SideBySide.{positions-ended}
 use Rattle.pebbling.specs.HashesDone.{fair}
 use Rattle.pebbling.specs.PutOut.{putOut-none, putOut-one, positions-first}

@@ -1,4 +1,4 @@
--- How many hashes P_k has done before a round, in closed form, under each schedule (F2); and that under each of them it has done 2^k - 1, so that its
+-- How many hashes P_k has done before a round, in closed form, under each schedule; and that under each of them it has done 2^k - 1, so that its
 -- y_0 is there in round 2^k. Assumes nothing.
 use mathlib.Core.Path.{_≡_, refl, ap}
 use mathlib.Core.Logic.{_⊎_, inl, inr}
@@ -74,7 +74,7 @@ optimal-busy k r h = rw (under-one k, le-ltb r (2 ^ k) h) refl
 optimal-step : (k c r : ℕ) → r + suc c ≡ 2 * 2 ^ k → suc c ≤ 2 ^ k → left (suc k) (suc c) ≡ left (suc k) c + optimal (suc k) r
 optimal-step k c r e h = omega (arith, left-suc k c r (omega arith) h, optimal-busy k r (omega arith))
 
--- F2: in the first half no hash is done, and in the second all but the rest
+-- in the first half no hash is done, and in the second all but the rest
 pub speed2-none : (k n : ℕ) → n < 2 ^ k → total (speed2 (suc k)) n ≡ 0
 speed2-none k = idle-total (speed2 (suc k)) (λ (c : ℕ). 2 * c - 1) (2 ^ k) (speed2-idle k) (speed2-step k)
 
@@ -91,7 +91,7 @@ optimal-done k n c e b =
 
 -- ---- every schedule
 
--- F2: the preparing rounds of every schedule add up to 2^k - 1 hashes
+-- the preparing rounds of every schedule add up to 2^k - 1 hashes
 pub fair : (s : ℕ) → s ≤ 3 → Fair (schedule s)
 unfolding schedule total
 fair zero h k = rushing-last k (2 ^ k - 1) refl
@@ -103,7 +103,7 @@ fair (suc (suc (suc zero))) h (suc k) =
     omega (arith, pow-pos k, left-zero k, optimal-done k (2 ^ suc k - 1) 0 (omega (arith, pow-pos k)) (omega arith))
 fair (suc (suc (suc (suc s)))) h k = absurd (omega arith)
 
--- ---- F2, for any k and before any round
+-- ---- hashes done, for any k and before any round
 
 pub done-rushing : (k r : ℕ) → r < 2 ^ k → done rushing k r ≡ 0
 unfolding done

@@ -7,10 +7,11 @@ use mathlib.Core.List.{List, [], _∷_, _++_, map}
 use Prim.Native.Nat.{ℕ, zero, suc, _+_, _-_, _^_, _≤_, _<_}
 use native.Mathlib.Nat.{eq-or-lt-of-le, le-dest, add-zero, add-suc}
 use native.Mathlib.Omega.{arith}
-use borrow.Author.Tests.{lt-ltb, le-ltb}
+use borrow.Author.Tests.{lt-ltb, le-ltb, eq-eqb, ne-eqb}
+use lib.Dec.{eqb}
 use lib.ListN.{length}
 use lib.Pow.{pow-pos, pow-mono}
-use Rattle.pebbling.specs.Len.{exp-lt, lt-or-le, len, len-law, len-le, lt-len, len-lt, len-unique, len-pow}
+use Rattle.pebbling.specs.Len.{exp-lt, lt-or-le, len, len-law, lt-len, len-lt, len-unique}
 use Rattle.pebbling.specs.Recursion.{place, held, finished, hash, hashes, chain}
 
 -- ---- finished y's
@@ -77,7 +78,7 @@ module _ (k h l m : ℕ) (n : Newest (suc k) (suc h) l m) where
 newest-none : (k l m : ℕ) → Newest k 0 l m → l ≡ k
 newest-none k l m n = omega (arith, n, exp-lt k (suc l) (omega arith))
 
--- F1: the newest y, and behind it the finished ones
+-- the newest y, and behind it the finished ones
 pub held-form : (k h l m base : ℕ) → Newest k h l m → held k h base ≡ (base + h) ∷ places k (suc l) m base
 unfolding held places
 held-form zero h l zero base n = let e : base + h ≡ base = omega (arith, n) in rw e refl
@@ -105,7 +106,7 @@ held-form (suc k) (suc h) l m base n = go (λ m n. held-form k (suc h - 2 ^ k) l
 pub newest-len : (k h l m : ℕ) → Newest k h l m → len (2 ^ k - h) ≡ suc l
 newest-len k h l m n = len-unique (2 ^ k - h) (suc l) (record { below = omega (arith, n); least = omega (arith, n) })
 
--- F1: how many are held
+-- how many are held
 pub held-length : (k h base : ℕ) → h < 2 ^ k → length (held k h base) ≡ k + 2 - len (2 ^ k - h)
 held-length k h base b = go (newest k h b)
   where
@@ -130,7 +131,7 @@ held-none (suc k) base = refl
 
 -- ---- finished or not
 
--- F1: the newest y is finished where the hashes to come are 2^l - 1 for an l
+-- the newest y is finished where the hashes to come are 2^l - 1 for an l
 pub finished-yes : (k h l m : ℕ) → Newest k h l m → h + 2 ^ l ≡ 2 ^ k → finished k h ≡ true
 unfolding finished
 finished-yes zero h l m n e = refl
@@ -152,6 +153,19 @@ finished-no (suc k) (suc h) l m n e = go (λ m n e. finished-no k (suc h - 2 ^ k
         → (suc h < 2 ^ k) ⊎ (2 ^ k ≤ suc h) → finished (suc k) (suc h) ≡ false
     go ih (inl b) = rw (lt-ltb (suc h) (2 ^ k) b) refl
     go ih (inr b) = let d = newest-later k h l m n b in rw (le-ltb (suc h) (2 ^ k) b) (ih (d .0) (d .1 .1) (omega arith))
+
+-- so a test by powers of two tells: what is left of 2^k is one
+pub finished-test : (k h : ℕ) → h < 2 ^ k → finished k h ≡ eqb (2 ^ k - h) (2 ^ (len (2 ^ k - h) - 1))
+finished-test k h b = go (newest k h b)
+  where
+    go : (l : ℕ) × ((m : ℕ) × Newest k h l m) → finished k h ≡ eqb (2 ^ k - h) (2 ^ (len (2 ^ k - h) - 1))
+    go n =
+        let e : len (2 ^ k - h) - 1 ≡ n .0 = omega (arith, newest-len k h (n .0) (n .1 .0) (n .1 .1)) in
+        rw e (by (eq-or-lt-of-le (n .1 .1 .begun)))
+      where
+        by : (h + 2 ^ n .0 ≡ 2 ^ k) ⊎ (h + 2 ^ n .0 < 2 ^ k) → finished k h ≡ eqb (2 ^ k - h) (2 ^ n .0)
+        by (inl q) = finished-yes k h (n .0) (n .1 .0) (n .1 .1) q ∙ sym (eq-eqb (2 ^ k - h) (2 ^ n .0) (omega arith))
+        by (inr q) = finished-no k h (n .0) (n .1 .0) (n .1 .1) q ∙ sym (ne-eqb (2 ^ k - h) (2 ^ n .0) (λ (z : 2 ^ k - h ≡ 2 ^ n .0). omega arith))
 
 -- ---- the next hash
 
@@ -188,7 +202,7 @@ step k h b = go (newest k h (omega arith))
             let q : Newest k (suc h) (n .0) (n .1 .0) = record { whole = n .1 .1 .whole; begun = omega arith; under = omega (arith, n .1 .1) } in
             (n .0, (n .1 .0, inl (record { unfinished = finished-no k h (n .0) (n .1 .0) (n .1 .1) e; now = n .1 .1; next = q })))
 
--- F1: one value more is held just where the newest was finished
+-- one value more is held just where the newest was finished
 held-at : (k h l m base : ℕ) → Newest k h l m → length (held k h base) ≡ suc m
 held-at k h l m base n = rw (held-form k h l m base n) (ap suc (places-length k (suc l) m base))
 

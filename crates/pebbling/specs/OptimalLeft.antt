@@ -195,7 +195,7 @@ step-odd-at k (suc c) e l = go (odd k (suc c) 1 (omega arith) (omega arith) (ome
     go (inl o) = inl o
     go (inr o) = inr (omega (arith, rw (len-pow 0) at (o .1)))
 
--- F2: one round more, by the schedule's hashes of that round
+-- one round more, by the schedule's hashes of that round
 pub left-suc : (k c r : ℕ) → r + suc c ≡ 2 ^ suc k → suc c ≤ 2 ^ k → left (suc k) (suc c) ≡ left (suc k) c + busy (suc k) r
 unfolding left
 left-suc k c r e h = go (eq-or-lt-of-le (len-law c .below))
@@ -236,7 +236,7 @@ left-zero k = rw (twiceLeft-zero (suc k) (omega arith)) (omega arith)
 
 -- ---- left is large enough, and its terms do not cross
 
--- 2^(len c) of the 2^k - h are left at least, which is what the room of a card rests on (F6)
+-- 2^(len c) of the 2^k - h are left at least, which is what the room of a card rests on
 left-room-at : (k c z j m : ℕ) → len c ≡ suc j → j + m ≡ k → c + z ≡ 2 * 2 ^ j → 0 < z → z ≤ 2 ^ j → 2 * 2 ^ j ≤ left (suc k) c + 1
 unfolding left
 left-room-at k c z j m f e d p h =

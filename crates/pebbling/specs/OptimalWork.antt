@@ -1,4 +1,4 @@
--- The optimal schedule's work in a paying round, from the rounds left alone, and its bound: half of k, rounded up (F8). The pebblers' shares make one
+-- The optimal schedule's work in a paying round, from the rounds left alone, and its bound: half of k, rounded up. The pebblers' shares make one
 -- number, since each ends where the next begins. Assumes nothing.
 use mathlib.Core.Path.{_≡_, refl, sym, ap, _∙_}
 use mathlib.Core.Bool.{cond}
@@ -81,7 +81,7 @@ prepare (suc k) n c e p q = go (lt-or-le n (2 ^ k))
         let f : len n ≡ suc k = len-unique n (suc k) (record { below = omega arith; least = omega arith }) in
         omega (arith, late h (le-dest (lt-len c 0 q)), optimal-busy k n h, rw f at whole)
 
--- F8: the work of the children of P_k with c rounds left
+-- the work of the children of P_k with c rounds left
 side-work : (k n c : ℕ) → n + c ≡ 2 ^ k → 0 < n → 0 < c → sideWork optimal k n ≡ hashesAt c
 side-work zero n c e p q = omega arith
 side-work (suc k) n c e p q = go (λ n c e p q. side-work k n c e p q) (lt-or-le (2 ^ k) n)
@@ -114,7 +114,7 @@ hashes-le k c q h = go (lt-or-le (2 * (2 ^ len c - c)) (2 ^ len c))
     go (inl b) = rw (lt-ltb (2 * z) (2 ^ len c) b) (omega (arith, len-le c k h, exp-lt (len z) (len c) (omega (arith, len-pos z (omega (arith, len-law c))))))
     go (inr b) = rw (le-ltb (2 * z) (2 ^ len c) b) (omega arith)
 
--- F8: the work of a paying round, and its bound
+-- the work of a paying round, and its bound
 pub work-optimal : (k r c : ℕ) → r + c ≡ 2 ^ suc k → 2 ^ k < r → 0 < c → work optimal k r ≡ hashesAt c
 work-optimal k r c e h q = work-children optimal k r h ∙ side-work k (r - 2 ^ k) c (omega arith) (omega arith) q
 

@@ -1,17 +1,16 @@
--- What is put out: nothing in a preparing round, and x_(c-1) in a paying round with c rounds left (F5). It is the first of the positions held.
+-- What is put out: nothing in a preparing round, and x_(c-1) in a paying round with c rounds left. It is the first of the positions held.
 -- Assumes nothing.
 use mathlib.Core.Path.{_≡_, refl, sym, ap, _∙_}
 use mathlib.Core.Logic.{_⊎_, inl, inr}
-use mathlib.Core.List.{List, [], _∷_, _++_, append-nil, flatMap}
+use mathlib.Core.List.{List, [], _∷_, _++_, flatMap}
 use Prim.Native.Nat.{ℕ, zero, suc, _+_, _-_, _^_, _≤_, _<_}
 use native.Mathlib.Nat.{eq-or-lt-of-le}
 use native.Mathlib.Omega.{arith}
 use borrow.Author.Tests.{lt-ltb, le-ltb}
 use lib.ListN.{length, take}
-use lib.Pow.{pow-pos}
 use Rattle.pebbling.specs.Len.{lt-or-le}
-use Rattle.pebbling.specs.Recursion.{done, place, held, Pebbler, running, preparing, putsOut, putOut, positions}
-use Rattle.pebbling.specs.SideBySide.{side, pebbler, running-itself, running-children, flatMap-append, side-gone, side-both, side-last, side-late, sidePositions, positions-itself, positions-children, sidePositions-gone, sidePositions-both, sidePositions-last, sidePositions-late}
+use Rattle.pebbling.specs.Recursion.{done, place, held, preparing, putsOut, putOut, positions}
+use Rattle.pebbling.specs.SideBySide.{side, pebbler, running-itself, running-children, flatMap-append, side-both, side-last, side-late, sidePositions, positions-itself, positions-children, sidePositions-both, sidePositions-last, sidePositions-late}
 use Rattle.pebbling.specs.OnePebbler.{places, held-all}
 use Rattle.pebbling.specs.HashesDone.{Fair, done-all}
 
@@ -48,7 +47,7 @@ side-putOut (suc k) n c base e p = go (λ n c base e p. side-putOut k n c base e
             let d : base + 2 ^ k + (2 ^ k - n - 1) ≡ base + c = omega arith in
             rw (side-both k n base h, flatMap-append, none k n base q, ih n (2 ^ k - n - 1) (base + 2 ^ k) (omega arith) p, d) refl
 
--- F5
+-- a paying round puts out one position
 pub putOut-one : (k r c base : ℕ) → r + suc c ≡ 2 ^ suc k → 2 ^ k ≤ r → putOut k r base ≡ (base + c) ∷ []
 unfolding putOut flatMap
 putOut-one k r c base e h = go (eq-or-lt-of-le h)

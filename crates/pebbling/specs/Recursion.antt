@@ -52,7 +52,7 @@ schedule (suc (suc (suc (suc s)))) = λ k r. 0
 unfoldable pub T : (ℕ → ℕ → ℕ) → ℕ → List ℕ
 T t k = row (t k) 1 (2 ^ k - 1)
 
--- W_0 is empty; W_k is T_(k-1) + W_(k-1), then 0, then W_(k-1)
+-- W_0 is empty; W_k is T_(k-1) + W_(k-1), entry by entry, then 0, then W_(k-1)
 unfoldable pub W : (ℕ → ℕ → ℕ) → ℕ → List ℕ
 W t zero = []
 W t (suc k) = zipWith _+_ (T t k) (W t k) ++ (0 ∷ W t k)

@@ -1,6 +1,6 @@
--- How many values are held under rushing, speed-2 and optimal: len c with c rounds left, once P_k has put out, and k + 1 before (F6). It rests on one
+-- How many values are held under rushing, speed-2 and optimal: len c with c rounds left, once P_k has put out, and k + 1 before. It rests on one
 -- fact of these schedules: a pebbler c rounds before it puts out has 2^(len c) hashes to go, itself put out counted as one. Assumes nothing.
-use mathlib.Core.Path.{_≡_, refl}
+use mathlib.Core.Path.{_≡_}
 use mathlib.Core.Logic.{_⊎_, inl, inr}
 use Prim.Native.Nat.{ℕ, zero, suc, _+_, _-_, _*_, _^_, _≤_, _<_}
 use native.Mathlib.Nat.{le-dest}
@@ -9,7 +9,7 @@ use lib.ListN.{length, length-append}
 use lib.Pow.{pow-pos, pow-mono}
 use Rattle.pebbling.specs.Len.{len, len-le, lt-len, lt-or-le, len-zero, len-pos}
 use Rattle.pebbling.specs.Recursion.{total, done, held, positions, rushing, speed2, optimal}
-use Rattle.pebbling.specs.SideBySide.{sidePositions, positions-itself, positions-children, sidePositions-zero, sidePositions-both, sidePositions-late}
+use Rattle.pebbling.specs.SideBySide.{sidePositions, positions-children, sidePositions-zero, sidePositions-both, sidePositions-late}
 use Rattle.pebbling.specs.OnePebbler.{held-length}
 use Rattle.pebbling.specs.OptimalLeft.{left-room}
 use Rattle.pebbling.specs.HashesDone.{rushing-early, rushing-last, speed2-none, speed2-done, optimal-none, optimal-done}
@@ -37,7 +37,7 @@ module _ (t : ℕ → ℕ → ℕ) (roomy : Roomy t) where
           rw (sidePositions-both t k n base h, length-append)
           (omega (arith, ih n (d .0) (base + 2 ^ k) (d .1) p, held-room k n (d .0) base (d .1) p, lt-len c k (omega arith)))
 
-  -- F6
+  -- what all hold together once P_k has put out its y_0
   pub positions-room : (k r c base : ℕ) → r + c ≡ 2 ^ suc k → 2 ^ k < r → length (positions t k r base) ≤ len c
   positions-room k r c base e h = rw (positions-children t k r base h) (side-room k (r - 2 ^ k) c base (omega arith) (omega arith))
 

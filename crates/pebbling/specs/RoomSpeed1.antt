@@ -1,4 +1,4 @@
--- How many values are held under speed-1: no more than 2k - 2, or k + 1 where that is more (F7). With c rounds left the pebblers that run are those of
+-- How many values are held under speed-1: no more than 2k - 2, or k + 1 where that is more. With c rounds left the pebblers that run are those of
 -- the binary digits of c, and the bound is shown with the digits one by one. Assumes nothing.
 use mathlib.Core.Path.{_≡_, refl, ap, _∙_}
 use mathlib.Core.Logic.{_⊎_, inl, inr}
@@ -8,7 +8,7 @@ use native.Mathlib.Omega.{arith}
 use lib.ListN.{length, length-append}
 use Rattle.pebbling.specs.Len.{lt-or-le, len, len-law, len-le, len-pow, len-unique}
 use Rattle.pebbling.specs.Recursion.{done, held, positions, speed1}
-use Rattle.pebbling.specs.SideBySide.{sidePositions, positions-children, sidePositions-zero, sidePositions-both, sidePositions-last, sidePositions-late}
+use Rattle.pebbling.specs.SideBySide.{sidePositions, positions-children, sidePositions-both, sidePositions-last, sidePositions-late}
 use Rattle.pebbling.specs.OnePebbler.{held-length}
 use Rattle.pebbling.specs.HashesDone.{speed1-done}
 
@@ -58,7 +58,7 @@ side-held (suc k) n c base e p q = go (λ n c base e p q. side-held k n c base e
             rw (sidePositions-both speed1 k n base l, length-append, held-count k n (2 ^ k - n) base (omega arith) p)
             (rw d at (add-own k (length (sidePositions speed1 k n (base + 2 ^ k))) (2 ^ k - n) (omega arith) (omega arith) (ih n (2 ^ k - n) (base + 2 ^ k) (omega arith) p (omega arith))))
 
--- F7
+-- what all hold together
 pub positions-room-speed1 : (k r c base : ℕ) → r + c ≡ 2 ^ suc k → 2 ^ k < r → 0 < c → length (positions speed1 k r base) ≤ max (k + 1) (2 * k - 2)
 positions-room-speed1 k r c base e h q = rw (positions-children speed1 k r base h) (go (side-held k (r - 2 ^ k) c base (omega arith) (omega arith) q))
   where

@@ -1,18 +1,17 @@
 -- How many values a round leaves, whatever values it is run on: as many as the positions held after it. Assumes nothing.
-use mathlib.Core.Path.{_≡_, refl, sym, ap, _∙_}
+use mathlib.Core.Path.{_≡_, refl, ap, _∙_}
 use mathlib.Core.Bool.{Bool, true, false, cond}
 use mathlib.Core.Logic.{_⊎_, inl, inr}
-use mathlib.Core.List.{List, [], _∷_, _++_}
+use mathlib.Core.List.{List, [], _∷_}
 use Prim.Native.Nat.{ℕ, zero, suc, _+_, _-_, _^_, _≤_, _<_}
 use native.Mathlib.Nat.{eq-or-lt-of-le, add-zero}
 use native.Mathlib.Omega.{arith}
 use lib.ListN.{length, take, drop, length-append, length-take, length-drop}
-use lib.Pow.{pow-pos}
 use Rattle.pebbling.specs.Len.{lt-or-le}
 use Rattle.pebbling.specs.Recursion.{done, held, finished, hash, hashes, positions, round}
 use Rattle.pebbling.specs.SideBySide.{held-some, sidePositions, positions-itself, positions-children, sidePositions-both, sidePositions-last, sidePositions-late, sideHeld, side-length}
 use Rattle.pebbling.specs.Turns.{sideRound, round-prepare, round-out, round-children, sideRound-both, sideRound-last, sideRound-late}
-use Rattle.pebbling.specs.OnePebbler.{places, places-length, held-all, held-begin, held-on}
+use Rattle.pebbling.specs.OnePebbler.{places-length, held-all, held-begin, held-on}
 use Rattle.pebbling.specs.HashesDone.{Fair, done-suc, done-all, done-fits}
 use Rattle.pebbling.specs.ChainRound.{children-begin}
 

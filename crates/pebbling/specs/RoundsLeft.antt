@@ -1,7 +1,7 @@
 -- Which pebblers run, read off the number c of rounds left: after round 2^k, P_i runs exactly where bit i of c is set, and is then in its
 -- round 2^(i+1) - (c mod 2^(i+1)). A child of a set bit stands behind those of the bits below it, over the lower half of their positions.
 -- Assumes nothing.
-use mathlib.Core.Path.{_≡_, refl, ap, _∙_}
+use mathlib.Core.Path.{_≡_, ap, _∙_}
 use mathlib.Core.Bool.{cond}
 use mathlib.Core.List.{List, [], _∷_, _++_}
 use mathlib.Core.Logic.{⊎-elim}
@@ -10,7 +10,6 @@ use native.Mathlib.Nat.{pow-succ'}
 use native.Mathlib.Omega.{arith}
 use borrow.Author.Tests.{lt-ltb, le-ltb}
 use lib.Dec.{ltb}
-use lib.Pow.{pow-pos}
 use Rattle.pebbling.specs.Len.{lt-or-le}
 use Rattle.pebbling.specs.Recursion.{Pebbler, running}
 use Rattle.pebbling.specs.SideBySide.{pebbler, side, running-children, side-gone, side-both, side-late}
@@ -30,13 +29,13 @@ side-bits (suc k) n c base p e =
     let two : 2 ^ suc k ≡ 2 * 2 ^ k = pow-succ' 2 k in
     ⊎-elim
     (λ (l : c < 2 ^ k).
-        rw (lt-ltb c (2 ^ k) l) (side-late k n base (omega arith) ∙ side-bits k (n - 2 ^ k) c base (omega arith) (omega arith)))
+    rw (lt-ltb c (2 ^ k) l) (side-late k n base (omega arith) ∙ side-bits k (n - 2 ^ k) c base (omega arith) (omega arith)))
     (λ (g : 2 ^ k ≤ c).
-        let r : n ≡ 2 ^ suc k - c = omega arith in
-        rw (le-ltb c (2 ^ k) g)
-        (side-both k n base (omega arith)
-        ∙ ap (λ (ps : List Pebbler). ps ++ (pebbler k n base ∷ [])) (side-bits k n (c - 2 ^ k) (base + 2 ^ k) p (omega arith))
-        ∙ ap (λ (m : ℕ). atBits k (c - 2 ^ k) (base + 2 ^ k) ++ (pebbler k m base ∷ [])) r))
+    let r : n ≡ 2 ^ suc k - c = omega arith in
+    rw (le-ltb c (2 ^ k) g)
+    (side-both k n base (omega arith)
+    ∙ ap (λ (ps : List Pebbler). ps ++ (pebbler k n base ∷ [])) (side-bits k n (c - 2 ^ k) (base + 2 ^ k) p (omega arith))
+    ∙ ap (λ (m : ℕ). atBits k (c - 2 ^ k) (base + 2 ^ k) ++ (pebbler k m base ∷ [])) r))
     (lt-or-le c (2 ^ k))
 
 -- after its round 2^k, a card with c rounds left runs the pebblers at the set bits of c

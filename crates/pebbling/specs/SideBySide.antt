@@ -72,7 +72,7 @@ upper k (suc i) n base h =
     let e : place (suc k) (suc i) base ≡ place k (suc i) (base + 2 ^ k) = unfold place in omega (arith, pow-mono h) in
     rw (upper k i n base (omega arith), e) refl
 
--- F4, of the pebblers themselves
+-- the split, of the pebblers themselves
 pub side-split : (k n base : ℕ) → side (suc k) n base ≡ side k n (base + 2 ^ k) ++ running k n base
 unfolding children running
 side-split k n base =
@@ -96,7 +96,7 @@ side-last k n base e = side-both k n base (omega arith) ∙ rw (side-gone k n (b
 pub side-late : (k n base : ℕ) → 2 ^ k < n → side (suc k) n base ≡ side k (n - 2 ^ k) base
 side-late k n base h = side-split k n base ∙ rw (side-gone k n (base + 2 ^ k) (omega arith), running-children k n base h) refl
 
--- F4 as one equation: P_(k+1) in its round 2^(k+1) + n is two P_k's, over the upper half in round 2^k + n and over the lower half in round n
+-- the split as one equation: P_(k+1) in its round 2^(k+1) + n is two P_k's, over the upper half in round 2^k + n and over the lower half in round n
 pub running-split : (k n base : ℕ) → 0 < n → running (suc k) (2 ^ suc k + n) base ≡ running k (2 ^ k + n) (base + 2 ^ k) ++ running k n base
 running-split k n base h =
     let e : 2 ^ suc k + n - 2 ^ suc k ≡ n = omega arith in
@@ -220,7 +220,7 @@ module _ (t : ℕ → ℕ → ℕ) where
   unfolding sideWork children
   sideWork-zero n = refl
 
-  -- F4, of the work
+  -- the split, of the work
   pub sideWork-split : (k n : ℕ) → sideWork (suc k) n ≡ sideWork k n + work t k n
   unfolding work sideWork
   sideWork-split k n =
@@ -240,7 +240,7 @@ module _ (t : ℕ → ℕ → ℕ) where
   unfolding sideWork
   sideWork-late k n h = rw (side-late k n 0 h) refl
 
-  -- ---- F4 as one equation
+  -- ---- the split as one equation
 
   pub positions-split : (k n base : ℕ) → 0 < n → positions t (suc k) (2 ^ suc k + n) base ≡ positions t k (2 ^ k + n) (base + 2 ^ k) ++ positions t k n base
   unfolding positions

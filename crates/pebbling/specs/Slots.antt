@@ -1,11 +1,11 @@
 -- The slots of a card's record are enough for what is held before every round, under every schedule. Assumes nothing.
 use mathlib.Core.Path.{_≡_}
 use mathlib.Core.Logic.{_⊎_, inl, inr}
-use Prim.Native.Nat.{ℕ, zero, suc, _+_, _-_, _*_, _^_, _≤_, _<_}
+use Prim.Native.Nat.{ℕ, zero, suc, _+_, _-_, _^_, _≤_, _<_}
 use native.Mathlib.Nat.{eq-zero-or-pos}
 use native.Mathlib.Omega.{arith}
 use lib.ListN.{length}
-use Rattle.pebbling.specs.Len.{len, lt-len, len-le, lt-or-le}
+use Rattle.pebbling.specs.Len.{lt-len, len-le, lt-or-le}
 use Rattle.pebbling.specs.Recursion.{schedule, done, positions, slots}
 use Rattle.pebbling.specs.SideBySide.{positions-itself, positions-children, sidePositions-gone}
 use Rattle.pebbling.specs.OnePebbler.{held-length}

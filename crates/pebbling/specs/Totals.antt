@@ -1,8 +1,8 @@
 -- Sums of hashes, for any family of schedules whose T_k add up to 2^k - 1: W_k is the work of the last 2^k - 1 rounds, and a whole run of P_k does
--- k * 2^(k-1) hashes (F9). Assumes nothing.
+-- k * 2^(k-1) hashes. Assumes nothing.
 use mathlib.Core.Path.{_≡_, refl, sym, ap, _∙_}
 use mathlib.Core.Logic.{_⊎_, inl, inr}
-use mathlib.Core.List.{List, [], _∷_, _++_, zipWith}
+use mathlib.Core.List.{List, _∷_, _++_, zipWith}
 use Prim.Native.Nat.{ℕ, zero, suc, _+_, _-_, _*_, _^_, _≤_, _<_}
 use native.Mathlib.Nat.{pow-succ', eq-or-lt-of-le, le-refl, le-step, add-zero, add-suc}
 use native.Mathlib.Omega.{arith}
@@ -148,11 +148,11 @@ module _ (t : ℕ → ℕ → ℕ) where
     side-total (suc k) =
         omega (arith, pow-pos k, side-total k, sides k (2 ^ suc k - 1), ended k, run k, ap (λ (x : ℕ). suc k * x) (pow-succ' 2 k))
 
-    -- F9, of the last 2^k - 1 rounds
+    -- of the last 2^k - 1 rounds, twice over: W_k adds up to (k - 2) * 2^(k-1) + 1
     pub W-total : (k : ℕ) → 2 * sum (W t k) + 2 * 2 ^ k ≡ k * 2 ^ k + 2
     W-total k = rw (W-side k, sum-total (sideWork t k) (2 ^ k - 1)) (side-total k)
 
-    -- F9, of all 2^(k+1) - 1 rounds
+    -- of all 2^(k+1) - 1 rounds, twice over
     pub run-total : (k : ℕ) → 2 * total (work t k) (2 ^ suc k - 1) ≡ k * 2 ^ k
     run-total k = omega (arith, pow-pos k, run k, side-total k)
 

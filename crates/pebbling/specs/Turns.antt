@@ -10,7 +10,7 @@ use lib.ListN.{length, take, drop, length-append, length-take, length-drop}
 use lib.Seq.{take-all, take-take, drop-drop, take-nil}
 use Rattle.pebbling.specs.Len.{lt-or-le}
 use Rattle.pebbling.specs.Recursion.{done, held, hashes, Pebbler, running, preparing, gives, holds, keeps, inTurn, positions, tick, round}
-use Rattle.pebbling.specs.SideBySide.{held-base, running-split, running-shift, positions-length, shift, side, pebbler, running-itself, running-children, side-gone, side-both, side-last, side-late, side-shift, sidePositions, sidePositions-both, sidePositions-last, sidePositions-late, positions-itself, positions-children, sideHeld, side-some, holds-length, side-length}
+use Rattle.pebbling.specs.SideBySide.{held-base, running-split, running-shift, positions-length, shift, side, pebbler, running-itself, running-children, side-both, side-last, side-late, side-shift, sidePositions, sidePositions-both, sidePositions-last, sidePositions-late, positions-itself, positions-children, sideHeld, side-some, holds-length, side-length}
 
 drop-take : {A : Type 0} (n m : ℕ) (s : List A) → drop n (take (n + m) s) ≡ take m (drop n s)
 drop-take zero m s = let e : 0 + m ≡ m = omega arith in rw e refl
@@ -177,7 +177,7 @@ module _ (t : ℕ → ℕ → ℕ) {A : Type 0} where
           rw (running-children k r 0 q)
           (side-tick k (r - 2 ^ k) ys (omega arith) (omega arith) (e ∙ ap length (positions-children t k r 0 q)))
 
-  -- ---- F4 as one equation: the upper P_k takes its values first, and the lower one the rest
+  -- ---- the split as one equation: the upper P_k takes its values first, and the lower one the rest
 
   module _ (f : A → A) where
     pub round-split : (k n : ℕ) (ys : List A) → 0 < n

@@ -1,7 +1,7 @@
 // One pebbler P_k up to its round 2^k: the hashes of a preparing round under each schedule, the hashes done
 // before a round, and the values held after so many hashes.
 ghost use mathlib.Core.Path.{_≡_};
-ghost use Prim.Native.Nat.{ℕ, _+_, _-_, _^_, _≤_, _<_};
+ghost use Prim.Native.Nat.{_-_, _^_, _≤_, _<_};
 ghost use Rattle.pebbling.specs.Len.{len};
 ghost use Rattle.pebbling.specs.OptimalLeft.{left};
 ghost use Rattle.pebbling.specs.Promises.{Curve, Done, Holds};
@@ -12,6 +12,7 @@ use super::powers::bits;
 use super::powers::power;
 use super::rounds_left;
 
+// Everything in the last preparing round.
 fn rushing_in(k: u32, round: RoundNumber) -> u32
     requires { ⌜ k ≤ 20 ⌝ }
     ensures { λ t. ⌜ t ≡ rushing k (round .0) ⌝ }
@@ -21,6 +22,7 @@ fn rushing_in(k: u32, round: RoundNumber) -> u32
     if r == last { last } else { 0 }
 }
 
+// Nothing in the first half, then two, and one at the end.
 fn speed2_in(k: u32, round: RoundNumber) -> u32
     requires { ⌜ (0 < k) × (k ≤ 20) ⌝ }
     ensures { λ t. ⌜ t ≡ speed2 k (round .0) ⌝ }
@@ -34,7 +36,8 @@ fn speed2_in(k: u32, round: RoundNumber) -> u32
     if r < last { 2 } else { 1 }
 }
 
-// The article's formula: the remainder of 2r by the power of two above what is left to round 2^k.
+// Nothing in the first half, then the article's formula: the lengths are those of what is left to round 2^k, and of
+// the remainder of 2r by the power of two above it.
 fn optimal_in(k: u32, round: RoundNumber) -> u32
     requires { ⌜ (0 < k) × (k ≤ 20) × (round .0 < 2 ^ k) ⌝ }
     ensures { λ t. ⌜ t ≡ optimal k (round .0) ⌝ }

@@ -1,7 +1,6 @@
 // What a card holds before a round and hashes in it, in numbers only: no value of the chain is looked at.
 // `hashes` has one pebbler's schedule and the hashes that it has done, `tally` counts over all the pebblers
 // that run, and `positions` below is the position list. Each costs time by k and never by 2^k.
-ghost use mathlib.Core.Path.{_≡_};
 ghost use Prim.Native.Nat.{suc, _^_, _≤_};
 ghost use Rattle.pebbling.specs.Promises.{Left};
 ghost use Rattle.pebbling.specs.PositionList.{Positioned};
@@ -28,9 +27,11 @@ pub fn rounds_left(k: u32, round: RoundNumber) -> RoundsLeft
     RoundsLeft(left)
 }
 
+// What the position list answers.
 pub enum PositionsAnswer {
     // The positions were written: how many, and the hashes of the round.
     Listed { held: u32, hashes: u32 },
+    // Nothing was written.
     Refused(Refusal),
 }
 

@@ -28,7 +28,7 @@ fn list_own(k: u32, h: u32, base: u32, at: usize, list: &mut [u32]) -> usize
     next
 }
 
-// P_k in any of its rounds, with its children.
+// P_k in any of its rounds, with its children: two P_(k-1), as `tally::count` goes, the upper half first.
 pub fn list_all(
     schedule: u32,
     k: u32,

@@ -52,7 +52,8 @@ fn count_own(schedule: u32, k: u32, round: RoundNumber) -> Tally
     }
 }
 
-// P_k in any of its rounds, with its children.
+// P_k in any of its rounds, with its children. Its round 2^k + n is round n of a P_(k-1) over the lower half of its
+// positions, and round 2^(k-1) + n of one over the upper half, which has run all its rounds once n is 2^(k-1).
 pub fn count(schedule: u32, k: u32, round: RoundNumber) -> Tally
     requires { ⌜ (schedule ≤ 3) × (k ≤ 20) × (0 < round .0) × (round .0 < 2 ^ suc k) ⌝ }
     ensures { λ t. ⌜ Tallied schedule k (round .0) (t .before) (t .after) (t .work) ⌝ }

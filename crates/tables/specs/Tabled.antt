@@ -13,6 +13,7 @@ use lib.ListN.{getD}
 pub record Tabled (n : ℕ) (f : ℕ → ℕ) (l : List ℕ) : Type 0 where
   pub at : (k : ℕ) → k < n → getD l k 0 ≡ f k
 
+-- both halves of a test that holds
 pub and-left : (a b : Bool) → T (a && b) → T a
 and-left true b t = tt
 and-left false b t = t
@@ -35,6 +36,7 @@ below p (suc n) t k h =
     (λ l. below p n (and-right (p n) (every p n) t) k l)
     (eq-or-lt-of-le (le-of-suc-le-suc h))
 
--- a list whose entries were computed to be what the rule says is a table of the rule: `tabled tt`
+-- a list each of whose entries is computed to be what the rule says is a table of the rule; for numbers that are written out the proof
+-- is `tabled tt`
 pub tabled : {n : ℕ} {f : ℕ → ℕ} {l : List ℕ} → T (every (λ k. eqb (getD l k 0) (f k)) n) → Tabled n f l
 tabled {n} {f} {l} t = record { at = λ k h. eqb→eq (getD l k 0) (f k) (below (λ k. eqb (getD l k 0) (f k)) n t k h) }

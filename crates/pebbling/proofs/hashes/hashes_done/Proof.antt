@@ -1,6 +1,5 @@
 -- `hashes::hashes_done` meets its contract: before round 2^k every schedule has done 2^k - 1 hashes, and before that each has its closed form. Assumes nothing.
 use Prim.Native.Nat.{_^_, _≤_, _<_}
-use native.Mathlib.Omega.{arith}
 use Rattle.pebbling.proofs.HashLaws.{done-at-end, done-0, done-1, done-2, done-3, three, before-end}
 use Rattle.pebbling.specs.Len.{not-zero}
 use borrow.Author.Needs.{needs}

@@ -1,5 +1,4 @@
 -- `hashes::optimal_done` meets its contract: nothing is done in the first half, and later all but what is left, in closed form. Assumes nothing.
-use native.Mathlib.Omega.{arith}
 use Rattle.pebbling.proofs.HashLaws.{idle-optimal, to-go-asked, busy-optimal}
 use borrow.Author.Needs.{needs}
 use Rattle.pebbling.proofs.hashes.optimal_done.Statement.{statement}

@@ -2,7 +2,7 @@
 -- ones; its invariant is that what is still to be stored makes the list that was promised. Assumes nothing.
 use borrow.Author.Needs.{needs}
 use native.Mathlib.Omega.{arith}
-use Prim.Native.Nat.{suc, _+_, _-_, _<_}
+use Prim.Native.Nat.{suc, _-_, _≤_, _<_}
 use lib.ListN.{length, length-set}
 use lib.Pow.{pow-mono}
 use mathlib.Core.Path.{_∙_}
@@ -24,7 +24,7 @@ room : (c : tie.After-power2 Inv-loop μ-loop)
 room c =
     let l = c .before .before in
     let s = l .before .before .before .before in
-    filling-room _ _ _ _ _ (s .pre .1) (l .before .before .power .ensures) (l .before .bits .ensures) (s .args .list .now) _ _ _ _ (s .pre .3) (l .loop .inv) (c .before .loop-test .taken)
+    filling-room _ _ _ _ _ (s .pre .1) (l .before .before .power .ensures) (l .before .bits .ensures) (s .args .list .now) _ _ _ _ (s .pre .3) (l .loop .inv) (omega (arith, c .before .loop-test .taken))
 
 power-requires : tie.Need-power-requires Inv-loop μ-loop
 power-requires c κs = search needs
@@ -54,7 +54,10 @@ power-requires-2 : tie.Need-power-requires-2 Inv-loop μ-loop
 power-requires-2 c κs = search needs
 
 sub-place : tie.Need-sub-place Inv-loop μ-loop
-sub-place c = let b = c .before .before .before .before in omega (arith, b .power .ensures .is, c .power2 .ensures .is, pow-mono (c .before .loop-test .taken))
+sub-place c =
+    let b = c .before .before .before .before in
+    let h : c .before .before .loop .i ≤ b .before .before .args .k = omega (arith, c .before .loop-test .taken) in
+    omega (arith, b .power .ensures .is, c .power2 .ensures .is, pow-mono h)
 
 add-place : tie.Need-add-place Inv-loop μ-loop
 add-place c = search needs
@@ -75,13 +78,13 @@ loop-less : tie.Need-loop-less Inv-loop μ-loop
 loop-less c = omega (arith, c .before .loop-test .taken)
 
 loop-again : tie.Need-loop-again Inv-loop μ-loop
-loop-again c = filling-step _ _ _ _ _ _ _ _ _ _ (c .before .before .loop .inv) (c .before .loop-test .taken) (c .before .before .before .before .power .ensures) (c .power2 .ensures)
+loop-again c = filling-step _ _ _ _ _ _ _ _ _ _ (c .before .before .loop .inv) (omega (arith, c .before .loop-test .taken)) (c .before .before .before .before .power .ensures) (c .power2 .ensures)
 
 same-length : tie.Need-same-length Inv-loop μ-loop
 same-length c = c .before .loop .inv .kept ∙ simp length-set
 
 returns : tie.Need-returns Inv-loop μ-loop
-returns c = let s = c .before .before .before .before .before in filling-end _ _ _ _ _ (s .pre .1) (c .before .before .before .power .ensures) (c .before .before .bits .ensures) _ _ _ _ _ (c .before .loop .inv) (c .loop-test .left)
+returns c = let s = c .before .before .before .before .before in filling-end _ _ _ _ _ (s .pre .1) (c .before .before .before .power .ensures) (c .before .before .bits .ensures) _ _ _ _ _ (c .before .loop .inv) (omega (arith, c .loop-test .left))
 
 pub list-own-spec : {M : Type 1} → statement M
 list-own-spec =
