@@ -2,3 +2,4 @@ pub mod HashLaws
 pub mod TallyLaws
 pub mod ListLaws
 pub mod PositionLaws
+pub mod HeldLaws
