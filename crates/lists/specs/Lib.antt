@@ -1,2 +1,4 @@
 pub mod Bytes
 pub mod Writing
+pub mod Values
+pub mod Parts

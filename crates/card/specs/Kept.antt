@@ -1,0 +1,154 @@
+-- A record that was written is read back, whatever was lent for it: the head, the values held, and zeros behind them. So a card that is
+-- lent to a round as an earlier call left it passes every test. Assumes nothing.
+use mathlib.Core.Path.{_≡_, refl, sym, ap, _∙_}
+use mathlib.Core.Bool.{true}
+use mathlib.Core.List.{List, [], _∷_, _++_, map, append-assoc}
+use Prim.Native.Nat.{ℕ, zero, suc, _+_, _-_, _*_, _/_, _%_, _^_, _≤_, _<_}
+use native.Mathlib.Nat.{mul-le-mul-left, pow-succ'}
+use native.Mathlib.Omega.{arith}
+use borrow.Author.Tests.{le-ltb, ne-eqb}
+use lib.Dec.{eqb, ltb}
+use lib.ListN.{length, take, drop, replicate, length-append, length-replicate}
+use lib.Pow.{pow-mono}
+use lib.Seq.{take-at, drop-at, drop-append-add}
+use Rattle.lists.specs.Values.{values, joined, values-joined, joined-length}
+use Rattle.lists.specs.Writing.{over, over-length}
+use Rattle.oneway.specs.Laws.{step-length}
+use Rattle.oneway.specs.Step.{known, width, step, littleEndian}
+use Rattle.oneway.specs.declared.Chain.{Chain}
+use Rattle.pebbling.specs.Demands.{never-more-than-slots}
+use Rattle.pebbling.specs.Recursion.{schedule, positions, chain, slots}
+use Rattle.card.specs.declared.Head.{Head}
+use Rattle.card.specs.declared.Inspected.the-variants.{Card}
+use Rattle.card.specs.Record.{chainOf, widthOf, held, heldBytes, slotBytes, size, headBytes, filled, cardBytes, number, headOf, heldValues, freeSlots, allZero, laidOut}
+use Rattle.card.specs.Refused.{numbers, inspectSlots, inspectOf}
+use Rattle.card.specs.Sound.{Numbered}
+
+-- ---- lists
+
+-- each element of a chain has the chain's width
+pub chain-length : (c : Chain) (seed : List ℕ) → length seed ≡ width c → (n : ℕ) → length (chain (step c) seed n) ≡ width c
+unfolding chain
+chain-length c seed e zero = e
+chain-length c seed e (suc n) = step-length c (chain (step c) seed n) (chain-length c seed e n)
+
+-- what is written last stays
+pub over-over : (x y old : List ℕ) → length x ≡ length y → over x (over y old) ≡ over x old
+over-over x y old e = rw (drop-at y (drop (length y) old) (length x) (sym e), e) refl
+
+all-zeros : (n : ℕ) → allZero (replicate n 0) ≡ true
+unfolding allZero
+all-zeros zero = refl
+all-zeros (suc n) = all-zeros n
+
+-- a number in n bytes, low byte first, is read back
+digits : (n x : ℕ) → x < 256 ^ n → number (littleEndian n x) ≡ x
+unfolding number
+digits zero x h = omega arith
+digits (suc n) x h =
+    let l : x / 256 < 256 ^ n = omega (arith, pow-succ' 256 n) in
+    rw (digits n (x / 256) l) (omega arith)
+
+-- ---- values that fill a head's slots from slot 0 on
+
+pub record Holding (head : Head) (vs : List (List ℕ)) : Type 0 where
+  pub sized : length (joined vs) ≡ heldBytes head
+  pub cut : (rest : List ℕ) → values (widthOf head) (held head) (joined vs ++ rest) ≡ vs
+
+-- the chain at the positions held is such values
+pub chain-holding : (head : Head) (seed : List ℕ) → length seed ≡ widthOf head
+    → Holding head (map (chain (step (chainOf head)) seed) (positions (schedule (head .schedule)) (head .k) (head .round .0) 0))
+unfolding heldBytes held
+chain-holding head seed e =
+    let g = chain (step (chainOf head)) seed in
+    let ps = positions (schedule (head .schedule)) (head .k) (head .round .0) 0 in
+    record {
+      sized = joined-length (widthOf head) g (chain-length (chainOf head) seed e) ps;
+      cut = values-joined (widthOf head) g (chain-length (chainOf head) seed e) ps;
+    }
+
+-- ---- the record
+
+sixteen : (head : Head) (n : ℕ) → size head ≤ n → 16 ≤ n
+unfolding size
+sixteen head n h = omega arith
+
+module _ (head : Head) (vs : List (List ℕ)) (nr : Numbered head) (from : 0 < head .round .0) (upto : head .round .0 ≤ 2 ^ suc (head .k)) (hs : Holding head vs) where
+  held-fits : heldBytes head ≤ slotBytes head
+  unfolding heldBytes slotBytes held
+  held-fits = mul-le-mul-left (widthOf head) (never-more-than-slots (head .schedule) (nr .schedule) (head .k) (head .round .0) upto)
+
+  filled-length : length (filled head vs) ≡ slotBytes head
+  unfolding filled
+  filled-length =
+      let z : ℕ = 0 in
+      let n : ℕ = slotBytes head - length (joined vs) in
+      length-append (joined vs) (replicate n z) ∙ omega (arith, length-replicate n z, held-fits, hs .sized)
+
+  pub card-length : length (cardBytes head vs) ≡ size head
+  unfolding cardBytes size headBytes
+  card-length = length-append (headBytes head) (filled head vs) ∙ omega (arith, filled-length)
+
+  round-small : head .round .0 < 256 ^ 4
+  round-small = omega (arith, upto, pow-mono {i = suc (head .k)} {j = 21} (omega (arith, nr .small)))
+
+  module _ (rest : List ℕ) where
+    head-back : headOf (headBytes head ++ rest) ≡ head
+    unfolding headOf headBytes
+    head-back = rw (digits 4 (head .round .0) round-small) refl
+
+    laid-back : laidOut (headBytes head ++ rest) ≡ true
+    unfolding laidOut headBytes allZero
+    laid-back = refl
+
+    free-back : allZero (freeSlots head (headBytes head ++ (filled head vs ++ rest))) ≡ true
+    unfolding freeSlots filled size
+    free-back =
+        let z : ℕ = 0 in
+        let n : ℕ = slotBytes head - heldBytes head in
+        let l : length (headBytes head) ≡ 16 = unfold headBytes in refl in
+        let m : 16 + slotBytes head - (16 + heldBytes head) ≡ n = omega arith in
+        let a : drop (16 + heldBytes head) (headBytes head ++ ((joined vs ++ replicate (slotBytes head - length (joined vs)) z) ++ rest)) ≡ replicate n z ++ rest =
+        rw (append-assoc (joined vs) (replicate (slotBytes head - length (joined vs)) z) rest, hs .sized, ← l)
+        (drop-append-add (headBytes head) (joined vs ++ (replicate n z ++ rest)) (heldBytes head)
+        ∙ drop-at (joined vs) (replicate n z ++ rest) (heldBytes head) (hs .sized)) in
+        rw (a, m, take-at (replicate n z) rest n (length-replicate n z)) (all-zeros n)
+
+  numbered : numbers head ≡ Card head
+  unfolding numbers
+  numbered = rw (nr .known, le-ltb 20 (head .k) (nr .small), le-ltb 3 (head .schedule) (nr .schedule)) refl
+
+  module _ (old : List ℕ) (long : size head ≤ length old) where
+    apart : over (cardBytes head vs) old ≡ headBytes head ++ (filled head vs ++ drop (size head) old)
+    unfolding cardBytes
+    apart = rw (card-length) (append-assoc (headBytes head) (filled head vs) (drop (size head) old))
+
+    kept-length : length (over (cardBytes head vs) old) ≡ length old
+    kept-length = over-length (cardBytes head vs) old (omega (arith, card-length))
+
+    -- it passes inspection
+    pub inspected : inspectOf (over (cardBytes head vs) old) ≡ Card head
+    unfolding inspectOf inspectSlots
+    inspected =
+        let rest : List ℕ = filled head vs ++ drop (size head) old in
+        let s : size head ≤ length (headBytes head ++ rest) = omega (arith, ap length apart, kept-length) in
+        rw apart
+        (rw (
+          le-ltb (length (headBytes head ++ rest)) 16 (sixteen head _ s),
+          laid-back rest,
+          head-back rest,
+          numbered,
+          le-ltb (length (headBytes head ++ rest)) (size head) s,
+          ne-eqb (head .round .0) 0 (λ e. omega arith),
+          le-ltb (2 ^ suc (head .k)) (head .round .0) upto,
+          free-back (drop (size head) old),
+        ) refl)
+
+    -- and the values held are read back
+    pub values-back : heldValues head (over (cardBytes head vs) old) ≡ vs
+    unfolding heldValues filled
+    values-back =
+        let z : ℕ = 0 in
+        let l : length (headBytes head) ≡ 16 = unfold headBytes in refl in
+        rw (apart, drop-at (headBytes head) (filled head vs ++ drop (size head) old) 16 l, append-assoc (joined vs) (replicate (slotBytes head - length (joined vs)) z) (drop (size head) old))
+        (hs .cut (replicate (slotBytes head - length (joined vs)) z ++ drop (size head) old))

@@ -1,0 +1,7 @@
+pub mod Record
+pub mod Refused
+pub mod Promises
+pub mod Sound
+pub mod Steps
+pub mod Kept
+pub mod Demands

@@ -1,0 +1,179 @@
+-- What start, round and anchor promise, and that each promise leaves no choice. The right sides are definitions over what was lent;
+-- a refusal is a case of them: its number alone is said, and no byte changes. Assumes nothing.
+use mathlib.Core.Path.{_≡_, refl, sym, ap, _∙_}
+use mathlib.Core.Bool.{cond, not, _||_}
+use mathlib.Core.List.{List, [], _∷_}
+use Prim.Native.Nat.{ℕ, suc, _^_, _<_}
+use native.Mathlib.Omega.{arith}
+use lib.Dec.{eqb, ltb}
+use lib.ListN.{length}
+use Rattle.lists.specs.Values.{joined}
+use Rattle.lists.specs.Writing.{over}
+use Rattle.oneway.specs.Step.{known, width, step}
+use Rattle.oneway.specs.declared.Chain.{Chain}
+use Rattle.pebbling.specs.Recursion.{schedule, putOut, work, tick, round, chain}
+use Rattle.refusals.specs.Numbers.{numberOf, saidOf, said-tells}
+use Rattle.refusals.specs.declared.Refusal.{Refusal}
+use Rattle.refusals.specs.declared.Refusal.the-variants.{UnknownFunction, TooManyTicks, UnknownSchedule, WrongLength, BadRecord, Spent, BadGap, NoRoom, NotTaken}
+use Rattle.card.specs.declared.Head.{Head}
+use Rattle.card.specs.declared.Inspected.{Inspected}
+use Rattle.card.specs.declared.Inspected.the-variants.{Card}
+use Rattle.card.specs.declared.Inspected.the-variants.{Refused as TurnedDown}
+use Rattle.card.specs.declared.Answer.{Answer}
+use Rattle.card.specs.declared.Answer.the-variants.{Done, Refused}
+use Rattle.card.specs.declared.RoundAnswer.{RoundAnswer}
+use Rattle.card.specs.declared.RoundAnswer.the-variants.{Quiet, Tick}
+use Rattle.card.specs.declared.RoundAnswer.the-variants.{Refused as NoRound}
+use Rattle.card.specs.Record.{chainOf, cardBytes, heldValues}
+use Rattle.card.specs.Refused.{later, startJudged, roundJudged, anchorJudged}
+
+-- ---- what the counter says: a refusal's number alone, or 0 and what there is to say
+
+abbrev pub said : Answer → List ℕ
+said Done = 0 ∷ []
+said (Refused refusal) = saidOf refusal
+
+-- a quiet round: 0, 0 and its hashes; a tick: 0, 1, its position and its hashes
+abbrev pub roundSays : RoundAnswer → List ℕ
+roundSays (Quiet hashes) = 0 ∷ 0 ∷ hashes ∷ []
+roundSays (Tick position hashes) = 0 ∷ 1 ∷ position ∷ hashes ∷ []
+roundSays (NoRound refusal) = saidOf refusal
+
+-- ---- start: the record for round 1, slot 0 the seed
+
+abbrev pub first : ℕ → ℕ → ℕ → Head
+first function k schedule = record { function = function; schedule = schedule; k = k; round = record { 0 = 1 } }
+
+abbrev pub startSaidBy : Inspected → List ℕ
+startSaidBy (TurnedDown refusal) = saidOf refusal
+startSaidBy (Card head) = 0 ∷ []
+
+abbrev pub startCardBy : List ℕ → List ℕ → Inspected → List ℕ
+startCardBy seed card (TurnedDown refusal) = card
+startCardBy seed card (Card head) = over (cardBytes head (seed ∷ [])) card
+
+unfoldable pub startSaid : ℕ → ℕ → ℕ → List ℕ → List ℕ → List ℕ
+startSaid function k schedule seed card = startSaidBy (startJudged (first function k schedule) seed card)
+
+unfoldable pub startCard : ℕ → ℕ → ℕ → List ℕ → List ℕ → List ℕ
+startCard function k schedule seed card = startCardBy seed card (startJudged (first function k schedule) seed card)
+
+pub record Started (function k schedule : ℕ) (seed card : List ℕ) (answer : Answer) (card′ : List ℕ) : Type 0 where
+  pub says : said answer ≡ startSaid function k schedule seed card
+  pub leaves : card′ ≡ startCard function k schedule seed card
+
+-- ---- round: the recursion's round on the values that are held, whatever they are
+
+-- the positions put out, none or one, and the hashes
+abbrev pub ranSays : List ℕ → ℕ → List ℕ
+ranSays [] hashes = 0 ∷ 0 ∷ hashes ∷ []
+ranSays (position ∷ none) hashes = 0 ∷ 1 ∷ position ∷ hashes ∷ []
+
+module _ (head : Head) where
+  abbrev t : ℕ → ℕ → ℕ
+  t = schedule (head .schedule)
+
+  abbrev r : ℕ
+  r = head .round .0
+
+  abbrev pub ranSaid : List ℕ
+  ranSaid = ranSays (putOut (head .k) r 0) (work t (head .k) r)
+
+  -- the values after the round, from slot 0 on
+  abbrev pub ranCard : List ℕ → List ℕ
+  ranCard card = over (cardBytes (later head) (round t (step (chainOf head)) (head .k) r (heldValues head card))) card
+
+  -- the value put out, at the front of the out buffer; a quiet round puts out none and writes nothing
+  abbrev pub ranOut : List ℕ → List ℕ → List ℕ
+  ranOut card out = over (joined (tick t (head .k) r (heldValues head card))) out
+
+abbrev pub roundSaidBy : Inspected → List ℕ
+roundSaidBy (TurnedDown refusal) = saidOf refusal
+roundSaidBy (Card head) = ranSaid head
+
+abbrev pub roundCardBy : List ℕ → Inspected → List ℕ
+roundCardBy card (TurnedDown refusal) = card
+roundCardBy card (Card head) = ranCard head card
+
+abbrev pub roundOutBy : List ℕ → List ℕ → Inspected → List ℕ
+roundOutBy card out (TurnedDown refusal) = out
+roundOutBy card out (Card head) = ranOut head card out
+
+unfoldable pub roundSaid : List ℕ → List ℕ → List ℕ
+roundSaid card out = roundSaidBy (roundJudged card out)
+
+unfoldable pub roundCard : List ℕ → List ℕ → List ℕ
+roundCard card out = roundCardBy card (roundJudged card out)
+
+unfoldable pub roundOut : List ℕ → List ℕ → List ℕ
+roundOut card out = roundOutBy card out (roundJudged card out)
+
+pub record Rounded (card out : List ℕ) (answer : RoundAnswer) (card′ out′ : List ℕ) : Type 0 where
+  pub says : roundSays answer ≡ roundSaid card out
+  pub leaves : card′ ≡ roundCard card out
+  pub writes : out′ ≡ roundOut card out
+
+-- ---- anchor: the chain's element 2^k, at the front of the out buffer
+
+unfoldable pub anchorSaid : Chain → ℕ → List ℕ → List ℕ → List ℕ
+anchorSaid c k seed out = said (anchorJudged c k seed out)
+
+abbrev pub anchorOutBy : Chain → ℕ → List ℕ → List ℕ → Answer → List ℕ
+anchorOutBy c k seed out Done = over (chain (step c) seed (2 ^ k)) out
+anchorOutBy c k seed out (Refused refusal) = out
+
+unfoldable pub anchorOut : Chain → ℕ → List ℕ → List ℕ → List ℕ
+anchorOut c k seed out = anchorOutBy c k seed out (anchorJudged c k seed out)
+
+pub record Anchored (c : Chain) (k : ℕ) (seed out : List ℕ) (answer : Answer) (out′ : List ℕ) : Type 0 where
+  pub says : said answer ≡ anchorSaid c k seed out
+  pub leaves : out′ ≡ anchorOut c k seed out
+
+-- ---- what is said tells the answer, so each promise is kept by one answer and one content of each lent buffer
+
+-- refusals are numbered from 1
+not-zero : (x : Refusal) → 0 < numberOf x
+not-zero UnknownFunction = omega arith
+not-zero TooManyTicks = omega arith
+not-zero UnknownSchedule = omega arith
+not-zero WrongLength = omega arith
+not-zero BadRecord = omega arith
+not-zero Spent = omega arith
+not-zero BadGap = omega arith
+not-zero NoRoom = omega arith
+not-zero NotTaken = omega arith
+
+not-done : (x : Refusal) → saidOf x ≡ 0 ∷ [] → ⊥
+not-done x e = let z : numberOf x ≡ 0 = cc in omega (arith, not-zero x)
+
+pub answer-told : (a b : Answer) → said a ≡ said b → a ≡ b
+answer-told Done Done e = refl
+answer-told Done (Refused y) e = absurd (not-done y (sym e))
+answer-told (Refused x) Done e = absurd (not-done x e)
+answer-told (Refused x) (Refused y) e = ap Refused (said-tells x y e)
+
+pub round-answer-told : (a b : RoundAnswer) → roundSays a ≡ roundSays b → a ≡ b
+round-answer-told (Quiet h) (Quiet i) e = cc
+round-answer-told (Quiet h) (Tick p i) e = let z : _≡_ {A = ℕ} 0 1 = cc in absurd (omega arith)
+round-answer-told (Quiet h) (NoRound y) e = let z : _≡_ {A = ℕ} 0 1 = cc in absurd (omega arith)
+round-answer-told (Tick p h) (Quiet i) e = let z : _≡_ {A = ℕ} 0 1 = cc in absurd (omega arith)
+round-answer-told (Tick p h) (Tick q i) e = cc
+round-answer-told (Tick p h) (NoRound y) e = let z : _≡_ {A = ℕ} 0 1 = cc in absurd (omega arith)
+round-answer-told (NoRound x) (Quiet i) e = let z : _≡_ {A = ℕ} 0 1 = cc in absurd (omega arith)
+round-answer-told (NoRound x) (Tick q i) e = let z : _≡_ {A = ℕ} 0 1 = cc in absurd (omega arith)
+round-answer-told (NoRound x) (NoRound y) e = ap NoRound (said-tells x y e)
+
+pub start-leaves-no-choice : (function k schedule : ℕ) (seed card : List ℕ) (a b : Answer) (card₁ card₂ : List ℕ)
+    → Started function k schedule seed card a card₁ → Started function k schedule seed card b card₂ → (a ≡ b) × (card₁ ≡ card₂)
+start-leaves-no-choice function k schedule seed card a b card₁ card₂ p q =
+    (answer-told a b (p .says ∙ sym (q .says)), p .leaves ∙ sym (q .leaves))
+
+pub round-leaves-no-choice : (card out : List ℕ) (a b : RoundAnswer) (card₁ card₂ out₁ out₂ : List ℕ)
+    → Rounded card out a card₁ out₁ → Rounded card out b card₂ out₂ → (a ≡ b) × (card₁ ≡ card₂) × (out₁ ≡ out₂)
+round-leaves-no-choice card out a b card₁ card₂ out₁ out₂ p q =
+    (round-answer-told a b (p .says ∙ sym (q .says)), p .leaves ∙ sym (q .leaves), p .writes ∙ sym (q .writes))
+
+pub anchor-leaves-no-choice : (c : Chain) (k : ℕ) (seed out : List ℕ) (a b : Answer) (out₁ out₂ : List ℕ)
+    → Anchored c k seed out a out₁ → Anchored c k seed out b out₂ → (a ≡ b) × (out₁ ≡ out₂)
+anchor-leaves-no-choice c k seed out a b out₁ out₂ p q =
+    (answer-told a b (p .says ∙ sym (q .says)), p .leaves ∙ sym (q .leaves))

@@ -1,0 +1,129 @@
+-- What is known of a head that has passed the tests of Refused. Assumes nothing.
+use mathlib.Core.Path.{_≡_, refl, ap, _∙_}
+use mathlib.Core.Bool.{Bool, true, false, cond, not, _||_, true≢false}
+use mathlib.Core.List.{List}
+use Prim.Native.Nat.{ℕ, suc, _+_, _^_, _≤_, _<_}
+use native.Mathlib.Omega.{arith}
+use borrow.Author.Tests.{ltb-false, eqb-true, eqb-false, not-false, le-ltb, ne-eqb}
+use lib.Dec.{T, eqb, ltb}
+use lib.ListN.{length}
+use Rattle.oneway.specs.Step.{known}
+use Rattle.pebbling.specs.Demands.{never-more-than-slots}
+use Rattle.pebbling.specs.Recursion.{slots}
+use Rattle.refusals.specs.declared.Refusal.{Refusal}
+use Rattle.refusals.specs.declared.Refusal.the-variants.{UnknownFunction, TooManyTicks, UnknownSchedule, WrongLength, BadRecord}
+use Rattle.card.specs.declared.Head.{Head}
+use Rattle.card.specs.declared.Inspected.{Inspected}
+use Rattle.card.specs.declared.Inspected.the-variants.{Refused, Card}
+use Rattle.card.specs.Record.{widthOf, held, size, headOf, freeSlots, allZero, laidOut}
+use Rattle.card.specs.Refused.{passing, numbers, roomFor, startJudged, later, inspectSlots, inspectOf, ready}
+
+-- a test that was passed
+passed-by : (b : Bool) (x : Refusal) (rest : Inspected) (h : Head) → cond b (Refused x) rest ≡ Card h → (b ≡ false) × (rest ≡ Card h)
+passed-by true x rest h e = let z : _≡_ {A = ℕ} 0 1 = cc in absurd (omega arith)
+passed-by false x rest h e = (refl, e)
+
+passed-if : (b : Bool) (x : Refusal) (rest : Inspected) (h : Head) → cond b rest (Refused x) ≡ Card h → (b ≡ true) × (rest ≡ Card h)
+passed-if true x rest h e = (refl, e)
+passed-if false x rest h e = let z : _≡_ {A = ℕ} 0 1 = cc in absurd (omega arith)
+
+-- ---- function, k and schedule
+
+pub record Numbered (head : Head) : Type 0 where
+  pub known : known (head .function) ≡ true
+  pub small : head .k ≤ 20
+  pub schedule : head .schedule ≤ 3
+
+module _ (g h : Head) (e : numbers g ≡ Card h) where
+  pub numbers-same : g ≡ h
+  unfolding numbers
+  numbers-same =
+      let a = passed-by (not (known (g .function))) UnknownFunction _ h e in
+      let b = passed-by (ltb 20 (g .k)) TooManyTicks _ h (a .1) in
+      let c : Card g ≡ Card h = passed-by (ltb 3 (g .schedule)) UnknownSchedule _ h (b .1) .1 in
+      cc
+
+  pub numbers-known : Numbered h
+  unfolding numbers
+  numbers-known =
+      let a = passed-by (not (known (g .function))) UnknownFunction _ h e in
+      let b = passed-by (ltb 20 (g .k)) TooManyTicks _ h (a .1) in
+      let c = passed-by (ltb 3 (g .schedule)) UnknownSchedule _ h (b .1) in
+      rw (← numbers-same)
+      (record { known = not-false (known (g .function)) (a .0); small = ltb-false 20 (g .k) (b .0); schedule = ltb-false 3 (g .schedule) (c .0) })
+
+-- they pass, and then the next tests pass the same head
+passed-on : (g : Head) (next : Head → Inspected) (h : Head) → passing (numbers g) next ≡ Card h → Numbered g × (next g ≡ Card h)
+passed-on g next h e = go (numbers g) refl e
+  where
+    go : (seen : Inspected) → numbers g ≡ seen → passing seen next ≡ Card h → Numbered g × (next g ≡ Card h)
+    go (Refused x) q e = let z : _≡_ {A = ℕ} 0 1 = cc in absurd (omega arith)
+    go (Card j) q e = let same : g ≡ j = numbers-same g j q in (rw same (numbers-known g j q), rw same e)
+
+-- ---- start
+
+pub record Startable (seed card : List ℕ) (head : Head) : Type 0 where
+  pub numbered : Numbered head
+  pub seeded : length seed ≡ widthOf head
+  pub long : size head ≤ length card
+
+neither : (a b : Bool) → (not a || b) ≡ false → (a ≡ true) × (b ≡ false)
+neither true false e = (refl, refl)
+neither true true e = absurd (true≢false e)
+neither false b e = absurd (true≢false e)
+
+pub startable : (g : Head) (seed card : List ℕ) (h : Head) → startJudged g seed card ≡ Card h → Startable seed card h
+unfolding startJudged roomFor
+startable g seed card h e =
+    let a = passed-on g (roomFor seed card) h e in
+    let b = passed-by (not (eqb (length seed) (widthOf g)) || ltb (length card) (size g)) WrongLength (Card g) h (a .1) in
+    let c = neither (eqb (length seed) (widthOf g)) (ltb (length card) (size g)) (b .0) in
+    let d : Card g ≡ Card h = b .1 in
+    let same : g ≡ h = cc in
+    rw (← same)
+    (record { numbered = a .0; seeded = eqb-true (length seed) (widthOf g) (c .0); long = ltb-false (length card) (size g) (c .1) })
+
+-- ---- a record that passes inspection
+
+pub record Sound (card : List ℕ) (head : Head) : Type 0 where
+  pub numbered : Numbered head
+  pub from : 0 < head .round .0
+  pub upto : head .round .0 ≤ 2 ^ suc (head .k)
+  pub long : size head ≤ length card
+
+pub sound : (card : List ℕ) (h : Head) → inspectOf card ≡ Card h → Sound card h
+unfolding inspectOf inspectSlots
+sound card h e =
+    let g = headOf card in
+    let a = passed-by (ltb (length card) 16) WrongLength _ h e in
+    let b = passed-if (laidOut card) BadRecord _ h (a .1) in
+    let c = passed-on g (inspectSlots card) h (b .1) in
+    let d = passed-by (ltb (length card) (size g)) WrongLength _ h (c .1) in
+    let f = passed-by (eqb (g .round .0) 0) BadRecord _ h (d .1) in
+    let i = passed-by (ltb (2 ^ suc (g .k)) (g .round .0)) BadRecord _ h (f .1) in
+    let j : Card g ≡ Card h = passed-if (allZero (freeSlots g card)) BadRecord (Card g) h (i .1) .1 in
+    let same : g ≡ h = cc in
+    let z : g .round .0 ≡ 0 → ⊥ = eqb-false (g .round .0) 0 (f .0) in
+    rw (← same)
+    (record {
+      numbered = c .0;
+      from = omega arith;
+      upto = ltb-false (2 ^ suc (g .k)) (g .round .0) (i .0);
+      long = ltb-false (length card) (size g) (d .0);
+    })
+
+-- ---- a round that is to be run
+
+-- no more is held after a round than there are slots, so refusal 8 never comes
+pub held-later : (head : Head) → Numbered head → head .round .0 < 2 ^ suc (head .k) → held (later head) ≤ slots (head .schedule) (head .k)
+unfolding held
+held-later head n before = never-more-than-slots (head .schedule) (n .schedule) (head .k) (suc (head .round .0)) before
+
+pub ready-passes : (head : Head) (out : List ℕ) → Numbered head → head .round .0 < 2 ^ suc (head .k) → widthOf head ≤ length out → ready out head ≡ Card head
+unfolding ready
+ready-passes head out n before wide =
+    rw (
+      ne-eqb (head .round .0) (2 ^ suc (head .k)) (λ e. omega arith),
+      le-ltb (length out) (widthOf head) wide,
+      le-ltb (slots (head .schedule) (head .k)) (held (later head)) (held-later head n before),
+    ) refl

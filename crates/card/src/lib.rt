@@ -1,0 +1,245 @@
+// The card: a record of a chain's values, which a round moves on by the published recursion, and the calls on it. `layout` reads and
+// writes the record.
+ghost use mathlib.Core.Path.{_≡_};
+ghost use mathlib.Core.List.{[], _∷_};
+ghost use Prim.Native.Nat.{suc, _^_, _≤_, _<_};
+ghost use lib.Dec.{T};
+ghost use lib.ListN.{length};
+ghost use Rattle.lists.specs.Writing.{over};
+ghost use Rattle.oneway.specs.Step.{known as isKnown, width as widthOf, step};
+ghost use Rattle.pebbling.specs.Recursion.{chain as element};
+ghost use Rattle.card.specs.Record.{cardBytes};
+ghost use Rattle.card.specs.Refused.{roomFor, startJudged};
+ghost use Rattle.card.specs.Refused.{later as laterOf};
+ghost use Rattle.card.specs.Promises.{Started, Rounded, Anchored};
+ghost use Rattle.card.specs.Sound.{Startable, Sound};
+ghost use Rattle.card.specs.Steps.{Running, Turned, Payable, Paid};
+use oneway::Chain;
+use pebbling::RoundNumber;
+use refusals::Refusal;
+
+mod layout;
+
+// The slots of the largest record: no k and schedule ask for more than 38, and no function's values are wider than 16 bytes.
+const MOST: usize = 608;
+
+// What the first 16 bytes of a record say: the chain's function, the schedule, k, and the next round.
+pub struct Head {
+    pub function: u32,
+    pub schedule: u32,
+    pub k: u32,
+    pub round: RoundNumber,
+}
+
+// What the checks of a call come to: the first refusal, or the head of a card that passes.
+pub enum Inspected {
+    Refused(Refusal),
+    Card(Head),
+}
+
+// The answer of start and anchor.
+pub enum Answer {
+    Done,
+    Refused(Refusal),
+}
+
+// The answer of a round: quiet or a tick with its position, and the hashes done.
+pub enum RoundAnswer {
+    Quiet { hashes: u32 },
+    Tick { position: u32, hashes: u32 },
+    Refused(Refusal),
+}
+
+// Refusal 4 of start: the seed is to have the chain's width, and the record room for its slots.
+fn room_for(head: Head, seed: &[u8], card: &[u8]) -> Inspected
+    requires { ⌜ head .k ≤ 20 ⌝ }
+    ensures { λ r. ⌜ r ≡ roomFor (now (seed .entry)) (now (card .entry)) head ⌝ }
+{
+    let w = oneway::width(Chain {
+        function: head.function,
+    });
+    if seed.len() != w {
+        return Inspected::Refused(Refusal::WrongLength);
+    }
+    let end = 16 + layout::slot_bytes(head);
+    if card.len() < end {
+        return Inspected::Refused(Refusal::WrongLength);
+    }
+    Inspected::Card(head)
+}
+
+// All that start refuses, in its order.
+fn judge_start(head: Head, seed: &[u8], card: &[u8]) -> Inspected
+    ensures { λ r. ⌜ r ≡ startJudged head (now (seed .entry)) (now (card .entry)) ⌝ }
+{
+    let checked = layout::check_numbers(head);
+    match checked {
+        Inspected::Refused(refusal) => Inspected::Refused(refusal),
+        Inspected::Card(h) => room_for(h, seed, card),
+    }
+}
+
+// The record for round 1: the seed in slot 0. The slots are made as zeros, so those behind it are free.
+fn lay(head: Head, seed: &[u8], card: &mut [u8])
+    requires { ⌜ Startable (now seed) (now card) head ⌝ }
+    ensures { λ _. ⌜ now (card .exit) ≡ over (cardBytes head (now (seed .entry) ∷ [])) (now (card .entry)) ⌝ }
+{
+    let n = layout::slot_bytes(head);
+    let mut slots = [0u8; MOST];
+    slots::copy(seed, &mut slots);
+    layout::put(head, &slots[..n], card);
+}
+
+// Lays out a card of 2^k ticks in the lent record, to begin with round 1. Refuses an unknown function (1), k over 20 (2), a schedule
+// over 3 (3), and a seed not of the function's width or a record that is too short (4), in this order. Bytes behind the record stay.
+pub fn start(function: u32, k: u32, schedule: u32, seed: &[u8], card: &mut [u8]) -> Answer
+    ensures { λ a. ⌜ Started function k schedule (now (seed .entry)) (now (card .entry)) a (now (card .exit)) ⌝ }
+{
+    let round = RoundNumber(1);
+    let head = Head {
+        function,
+        schedule,
+        k,
+        round,
+    };
+    let judged = judge_start(head, seed, card);
+    match judged {
+        Inspected::Refused(refusal) => Answer::Refused(refusal),
+        Inspected::Card(h) => {
+            lay(h, seed, card);
+            Answer::Done
+        }
+    }
+}
+
+// The head after the round.
+fn later(head: Head) -> Head
+    requires { ⌜ head .round .0 < 4294967295 ⌝ }
+    ensures { λ h. ⌜ h ≡ laterOf head ⌝ }
+{
+    let round = head.round;
+    let next = RoundNumber(round.0 + 1);
+    Head {
+        function: head.function,
+        schedule: head.schedule,
+        k: head.k,
+        round: next,
+    }
+}
+
+// What the round answers, and its tick: from round 2^k on the first slot is put out, and its position is the number of rounds left
+// after this one.
+fn pay(head: Head, hashes: u32, held: &[u8], out: &mut [u8]) -> RoundAnswer
+    requires { ⌜ Payable head (now held) (now out) ⌝ }
+    ensures { λ a. ⌜ Paid head hashes (now (held .entry)) (now (out .entry)) a (now (out .exit)) ⌝ }
+{
+    let k = head.k;
+    let round = head.round;
+    if round.0 < pebbling::powers::power(k) {
+        return RoundAnswer::Quiet { hashes };
+    }
+    let w = oneway::width(Chain {
+        function: head.function,
+    });
+    slots::copy(&held[..w], out);
+    let left = pebbling::rounds_left(k, round);
+    RoundAnswer::Tick {
+        position: left.0 - 1,
+        hashes,
+    }
+}
+
+// The round on the slots: from the record into a scratch that is made as zeros, so that the slots behind the values come out free. Only
+// then is anything written: the tick, and the record with its slots and the next round.
+fn run(head: Head, card: &mut [u8], out: &mut [u8]) -> RoundAnswer
+    requires { ⌜ Running head (now card) (now out) ⌝ }
+    ensures { λ a. ⌜ Turned head (now (card .entry)) (now (out .entry)) a (now (card .exit)) (now (out .exit)) ⌝ }
+{
+    let n = layout::slot_bytes(head);
+    let end = 16 + n;
+    let chain = Chain {
+        function: head.function,
+    };
+    let round = head.round;
+    let mut next = [0u8; MOST];
+    let moved = slots::advance(chain, head.schedule, head.k, round, &card[16..end], &mut next);
+    let written = moved.written;
+    if n < written {
+        return RoundAnswer::Refused(Refusal::NoRoom);
+    }
+    let answer = pay(head, moved.hashes, &card[16..end], out);
+    let after = later(head);
+    layout::put(after, &next[..n], card);
+    answer
+}
+
+// Refusals 6 and 4 of a card that has passed inspection, and then its round.
+fn turn(head: Head, card: &mut [u8], out: &mut [u8]) -> RoundAnswer
+    requires { ⌜ Sound (now card) head ⌝ }
+    ensures { λ a. ⌜ Turned head (now (card .entry)) (now (out .entry)) a (now (card .exit)) (now (out .exit)) ⌝ }
+{
+    let round = head.round;
+    let r = round.0;
+    let end = pebbling::powers::power(head.k + 1);
+    let wide = oneway::width(Chain {
+        function: head.function,
+    });
+    if r == end {
+        return RoundAnswer::Refused(Refusal::Spent);
+    }
+    if out.len() < wide {
+        return RoundAnswer::Refused(Refusal::WrongLength);
+    }
+    run(head, card, out)
+}
+
+// Runs one round of the card in the lent record. A tick goes to the front of the out buffer; a quiet round leaves it alone. Refuses,
+// in this order: a record of fewer than 16 bytes (4), one without the mark or its zero bytes (5), an unknown function (1), k over 20
+// (2), a schedule over 3 (3), a record too short for its slots (4), a round out of its range or a free slot that is not zero (5), a
+// card with no round left (6), an out buffer too short for a value (4), and more values after the round than slots (8).
+pub fn round(card: &mut [u8], out: &mut [u8]) -> RoundAnswer
+    ensures { λ a. ⌜ Rounded (now (card .entry)) (now (out .entry)) a (now (card .exit)) (now (out .exit)) ⌝ }
+{
+    let seen = layout::inspect(card);
+    match seen {
+        Inspected::Refused(refusal) => RoundAnswer::Refused(refusal),
+        Inspected::Card(head) => turn(head, card, out),
+    }
+}
+
+// n steps of the chain, in place.
+fn walk(chain: Chain, n: u32, value: &mut [u8])
+    requires { ⌜ T (isKnown (chain .function)) ⌝ }
+    requires { ⌜ length (now value) ≡ widthOf chain ⌝ }
+    ensures { λ _. ⌜ now (value .exit) ≡ element (step chain) (now (value .entry)) n ⌝ }
+{
+    let mut i: u32 = 0;
+    while i < n {
+        oneway::apply(chain, value);
+        i += 1;
+    }
+}
+
+// Writes the anchor of a card of 2^k ticks, the chain's element 2^k from the seed, to the front of the out buffer. Refuses an unknown
+// function (1), k over 20 (2), and a seed not of the function's width or an out buffer that is too short (4), in this order.
+pub fn anchor(function: u32, k: u32, seed: &[u8], out: &mut [u8]) -> Answer
+    ensures { λ a. ⌜ Anchored (record { function = function }) k (now (seed .entry)) (now (out .entry)) a (now (out .exit)) ⌝ }
+{
+    let chain = Chain { function };
+    if oneway::known(function) {
+        if 20 < k {
+            return Answer::Refused(Refusal::TooManyTicks);
+        }
+        let w = oneway::width(chain);
+        if seed.len() != w {
+            return Answer::Refused(Refusal::WrongLength);
+        }
+        if out.len() < w {
+            return Answer::Refused(Refusal::WrongLength);
+        }
+        slots::copy(seed, out);
+        walk(chain, pebbling::powers::power(k), &mut out[..w]);
+        return Answer::Done;
+    }
+    Answer::Refused(Refusal::UnknownFunction)
+}
