@@ -162,7 +162,14 @@ fn run(head: Head, card: &mut [u8], out: &mut [u8]) -> RoundAnswer
     };
     let round = head.round;
     let mut next = [0u8; MOST];
-    let moved = slots::advance(chain, head.schedule, head.k, round, &card[16..end], &mut next);
+    let moved = slots::advance(
+        chain,
+        head.schedule,
+        head.k,
+        round,
+        &card[16..end],
+        &mut next,
+    );
     let written = moved.written;
     if n < written {
         return RoundAnswer::Refused(Refusal::NoRoom);

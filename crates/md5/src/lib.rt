@@ -176,12 +176,12 @@ fn word_number(i: usize) -> usize
     7 * i % 16
 }
 
-// The word x turned n places to the left.
+// The word x turned n places to the left. The remainders change nothing: they show the compiler a rotation.
 fn rotated(x: u32, n: u32) -> u32
     requires { ⌜ (0 < n) × (n < 32) ⌝ }
     ensures { λ r. ⌜ r ≡ rotateLeft x n ⌝ }
 {
-    (x << n) | (x >> (32 - n))
+    (x << (n % 32)) | (x >> ((32 - n) % 32))
 }
 
 // Step i on the registers a, b, c, d, which change places for the next one.

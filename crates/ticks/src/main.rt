@@ -5,7 +5,6 @@ ghost use Prim.Native.Nat.{_<_};
 ghost use lib.Dec.{T};
 ghost use lib.ListN.{length};
 ghost use Rattle.oneway.specs.Step.{known, width};
-
 use card::RoundAnswer;
 use libc::STDOUT_FILENO;
 use oneway::Chain;
