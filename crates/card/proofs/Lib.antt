@@ -1,3 +1,4 @@
+pub mod HeldLaws
 pub mod ReadLaws
 pub mod StartLaws
 pub mod TurnLaws

@@ -1,7 +1,7 @@
 -- What the code that reads and writes records comes to, over plain lists and numbers: one law for each answer, in the order of the
 -- source. Assumes nothing.
 use mathlib.Core.Path.{_≡_, refl, sym, ap, _∙_}
-use mathlib.Core.Bool.{Bool, true, false, cond, not, _&&_, and-assoc, and-true}
+use mathlib.Core.Bool.{Bool, true, false, cond, _&&_, and-assoc, and-true}
 use mathlib.Core.List.{List, [], _∷_, _++_, append-assoc}
 use Prim.Native.Nat.{ℕ, zero, suc, _+_, _-_, _*_, _^_, _≤_, _<_, max}
 use native.Mathlib.Nat.{mul-le-mul, mul-le-mul-left}
@@ -16,10 +16,10 @@ use lib.Seq.{drop-cons, drop-drop, drop-at, take-at}
 use Rattle.lists.specs.Parts.{part-tail, put-tail}
 use Rattle.lists.specs.Writing.{over, over-length}
 use Rattle.oneway.specs.Laws.{width-small}
-use Rattle.oneway.specs.Step.{width, known}
+use Rattle.oneway.specs.Step.{known}
 use Rattle.pebbling.specs.Recursion.{schedule, positions, slots}
 use Rattle.pebbling.specs.Demands.{none-held-at-the-end, never-more-than-slots}
-use Rattle.pebbling.specs.Promises.{Power, Tallied}
+use Rattle.pebbling.specs.Promises.{Power}
 use Rattle.refusals.specs.declared.Refusal.{Refusal}
 use Rattle.refusals.specs.declared.Refusal.the-variants.{UnknownFunction, TooManyTicks, UnknownSchedule, WrongLength, BadRecord}
 use Rattle.card.specs.declared.Head.{Head}

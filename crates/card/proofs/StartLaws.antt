@@ -2,14 +2,13 @@
 -- Assumes nothing.
 use mathlib.Core.Path.{_≡_, refl, sym, ap, _∙_}
 use mathlib.Core.Bool.{Bool, true, false, true≢false}
-use mathlib.Core.List.{List, [], _∷_, _++_, append-nil, append-assoc}
-use Prim.Native.Nat.{ℕ, suc, _+_, _-_, _*_, _^_, _≤_, _<_}
+use mathlib.Core.List.{List, [], _∷_, _++_, append-nil}
+use Prim.Native.Nat.{ℕ, _+_, _-_, _^_, _≤_, _<_}
 use native.Mathlib.Numerals.{add-one}
 use native.Mathlib.Omega.{arith}
 use borrow.Author.Tests.{lt-ltb, le-ltb, eq-eqb, ne-eqb, ltb-true}
-use borrow.Rule.Slice.PartMut.{putMid}
-use lib.Dec.{T, eqb, ltb}
-use lib.ListN.{length, take, drop, replicate, length-append, length-replicate, replicate-append-replicate}
+use lib.Dec.{T}
+use lib.ListN.{length, take, drop, replicate, length-replicate, replicate-append-replicate}
 use lib.Seq.{take-add, take-at, drop-at, length-take-le}
 use Rattle.lists.specs.Values.{joined}
 use Rattle.lists.specs.Writing.{over, over-length}
@@ -23,13 +22,11 @@ use Rattle.refusals.specs.declared.Refusal.the-variants.{UnknownFunction, TooMa
 use Rattle.card.specs.declared.Head.{Head}
 use Rattle.card.specs.declared.Inspected.{Inspected}
 use Rattle.card.specs.declared.Inspected.the-variants.{Refused, Card}
-use Rattle.card.specs.declared.Answer.{Answer}
-use Rattle.card.specs.declared.Answer.the-variants.{Done}
-use Rattle.card.specs.declared.Answer.the-variants.{Refused as NotDone}
+use Rattle.card.specs.declared.Answer.the-variants.{Done, Refused as NotDone}
 use Rattle.card.specs.Record.{widthOf, slotBytes, size, headBytes, filled, cardBytes}
 use Rattle.card.specs.Refused.{passing, numbers, roomFor, startJudged, anchorJudged}
 use Rattle.card.specs.Promises.{first, startSaid, startCard, Started, anchorSaid, anchorOut, Anchored}
-use Rattle.card.specs.Sound.{Numbered, Startable}
+use Rattle.card.specs.Sound.{Startable}
 use Rattle.card.specs.Steps.{Puttable}
 use Rattle.card.specs.Kept.{chain-length}
 use Rattle.card.proofs.ReadLaws.{first-slot}

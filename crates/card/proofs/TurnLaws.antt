@@ -1,36 +1,33 @@
 -- What the code of a round comes to, over plain lists and numbers, in the order of the source. Assumes nothing.
 use mathlib.Core.Path.{_≡_, refl, sym, ap, _∙_}
-use mathlib.Core.Bool.{Bool, true, false}
 use mathlib.Core.List.{List, [], _∷_, _++_, append-nil}
-use Prim.Native.Nat.{ℕ, zero, suc, _+_, _-_, _*_, _^_, _≤_, _<_}
+use Prim.Native.Nat.{ℕ, zero, suc, _+_, _-_, _^_, _≤_, _<_}
 use native.Mathlib.Nat.{mul-le-mul-left}
 use native.Mathlib.Numerals.{add-one}
 use native.Mathlib.Omega.{arith}
-use borrow.Author.Tests.{le-ltb, lt-ltb, eq-eqb, ne-eqb}
-use lib.Dec.{T, eqb, ltb}
+use borrow.Author.Tests.{lt-ltb, eq-eqb, ne-eqb}
 use lib.ListN.{length, take, drop, replicate, length-replicate}
 use lib.Pow.{pow-mono}
 use lib.Seq.{length-take-le}
 use Rattle.lists.specs.Parts.{part-length}
 use Rattle.lists.specs.Values.{values, values-length, values-take, joined, joined-values}
 use Rattle.lists.specs.Writing.{over}
-use Rattle.oneway.specs.Step.{known, width, step}
+use Rattle.oneway.specs.Step.{known, step}
 use Rattle.pebbling.specs.Demands.{preparing-rounds-are-quiet, paying-rounds-pay, first-is-put-out, never-more-than-slots}
 use Rattle.pebbling.specs.Promises.{Power, Left}
-use Rattle.pebbling.specs.Recursion.{schedule, putOut, positions, work, tick, round, slots}
+use Rattle.pebbling.specs.Recursion.{schedule, positions, tick, round, slots}
 use Rattle.pebbling.specs.Turns.{tick-none, tick-first}
 use Rattle.refusals.specs.declared.Refusal.{Refusal}
-use Rattle.refusals.specs.declared.Refusal.the-variants.{WrongLength, Spent, NoRoom}
+use Rattle.refusals.specs.declared.Refusal.the-variants.{WrongLength, Spent}
 use Rattle.slots.specs.Moves.{Advancing, Advanced}
 use Rattle.card.specs.declared.Head.{Head}
 use Rattle.card.specs.declared.Inspected.{Inspected}
 use Rattle.card.specs.declared.Inspected.the-variants.{Refused, Card}
 use Rattle.card.specs.declared.RoundAnswer.{RoundAnswer}
-use Rattle.card.specs.declared.RoundAnswer.the-variants.{Quiet, Tick}
-use Rattle.card.specs.declared.RoundAnswer.the-variants.{Refused as NoRound}
+use Rattle.card.specs.declared.RoundAnswer.the-variants.{Quiet, Tick, Refused as NoRound}
 use Rattle.card.specs.Record.{chainOf, widthOf, held, heldBytes, slotBytes, size, headBytes, filled, cardBytes, heldValues}
 use Rattle.card.specs.Refused.{later, inspectOf, ready, roundJudged}
-use Rattle.card.specs.Promises.{roundSays, ranSays, roundSaid, roundCard, roundOut, Rounded}
+use Rattle.card.specs.Promises.{roundSaid, roundCard, roundOut, Rounded}
 use Rattle.card.specs.Sound.{Numbered, Sound, held-later, ready-passes}
 use Rattle.card.specs.Steps.{Puttable, Running, Turned, Payable, Paid}
 use Rattle.card.proofs.ReadLaws.{first-slot}

@@ -2,13 +2,12 @@
 -- every k up to 20, every schedule, every seed of the function's width, and whatever was lent. Assumes nothing.
 use mathlib.Core.Path.{_≡_, refl, sym, ap, _∙_}
 use mathlib.Core.Bool.{Bool, true, false, cond, true≢false}
-use mathlib.Core.List.{List, [], _∷_, _++_, map, append-nil}
+use mathlib.Core.List.{List, [], _∷_, map, append-nil}
 use Prim.Native.Nat.{ℕ, zero, suc, _+_, _-_, _/_, _^_, _≤_, _<_}
 use native.Mathlib.Omega.{arith}
 use borrow.Author.Tests.{eq-eqb, le-ltb, eqb-false}
 use lib.Dec.{eqb, ltb}
-use lib.ListN.{length, take, drop}
-use lib.Pow.{pow-pos}
+use lib.ListN.{length, take}
 use lib.Seq.{take-at}
 use Rattle.lists.specs.Values.{joined}
 use Rattle.lists.specs.Writing.{over}
@@ -16,15 +15,12 @@ use Rattle.oneway.specs.Step.{known, width, step}
 use Rattle.oneway.specs.declared.Chain.{Chain}
 use Rattle.pebbling.specs.Demands.{preparing-rounds-are-quiet, paying-rounds-pay, round-moves-the-chain, card-holds-the-chain, card-is-quiet, card-pays, optimal-paying-rounds-are-short}
 use Rattle.pebbling.specs.Recursion.{schedule, positions, putOut, work, tick, round, before, chain, slots}
-use Rattle.refusals.specs.Numbers.{saidOf}
 use Rattle.refusals.specs.declared.Refusal.the-variants.{WrongLength, Spent, NoRoom}
 use Rattle.card.specs.declared.Head.{Head}
-use Rattle.card.specs.declared.Inspected.{Inspected}
 use Rattle.card.specs.declared.Inspected.the-variants.{Refused, Card}
-use Rattle.card.specs.declared.Answer.the-variants.{Done}
 use Rattle.card.specs.Record.{widthOf, held, slotBytes, size, cardBytes, heldValues}
 use Rattle.card.specs.Refused.{numbers, roomFor, startJudged, anchorJudged, later, inspectOf, ready, roundJudged}
-use Rattle.card.specs.Promises.{startSaid, startCard, ranSays, roundSaidBy, roundSaid, roundCard, roundOut, anchorSaid, anchorOut}
+use Rattle.card.specs.Promises.{startSaid, startCard, ranSays, roundSaidBy, roundSaid, roundCard, roundOut, anchorOut}
 use Rattle.card.specs.Sound.{Numbered, Sound, sound, held-later, ready-passes}
 use Rattle.card.specs.Kept.{chain-length, over-over, Holding, chain-holding, card-length, inspected, values-back}
 
@@ -51,10 +47,6 @@ module _ (function k s : ℕ) (seed lent : List ℕ) (given : Given function k s
 
   abbrev t : ℕ → ℕ → ℕ
   t = schedule s
-
-  -- x_n
-  abbrev x : ℕ → List ℕ
-  x n = chain (step c) seed n
 
   numbered : (r : ℕ) → Numbered (headAt function k s r)
   numbered r = record { known = given .known; small = given .small; schedule = given .scheduled }
@@ -185,9 +177,19 @@ module _ (function k s : ℕ) (seed lent : List ℕ) (given : Given function k s
       rw (given .known, le-ltb 20 k (given .small), eq-eqb (length seed) (width c) (given .seeded), le-ltb (length out) (width c) w) refl
 
   -- so one step from the first tick, which round 2^k puts out, gives it
-  pub first-tick-leads-to-the-anchor : step c (chain (step c) seed (2 ^ k - 1)) ≡ chain (step c) seed (2 ^ k)
+  pub first-tick-leads-to-the-anchor : (outs : ℕ → List ℕ) → ((n : ℕ) → width c ≤ length (outs n)) → (out : List ℕ) → width c ≤ length out → (n : ℕ) → suc n ≡ 2 ^ k
+      → step c (take (width c) (roundOut (after function k s seed lent outs n) (outs n))) ≡ take (width c) (anchorOut c k seed out)
   unfolding chain
-  first-tick-leads-to-the-anchor = let e : suc (2 ^ k - 1) ≡ 2 ^ k = omega (arith, pow-pos k) in ap (λ (n : ℕ). chain (step c) seed n) e
+  first-tick-leads-to-the-anchor outs wide out w n e =
+      let tick : roundOut (after function k s seed lent outs n) (outs n) ≡ over (chain (step c) seed n) (outs n) =
+      paying-round-pays outs wide n n (omega arith) (omega arith) in
+      let first : take (width c) (over (chain (step c) seed n) (outs n)) ≡ chain (step c) seed n =
+      take-at (chain (step c) seed n) _ (width c) (chain-length c seed (given .seeded) n) in
+      let last : take (width c) (over (chain (step c) seed (suc n)) out) ≡ chain (step c) seed (suc n) =
+      take-at (chain (step c) seed (suc n)) _ (width c) (chain-length c seed (given .seeded) (suc n)) in
+      ap (λ (b : List ℕ). step c (take (width c) b)) tick
+      ∙ ap (step c) first
+      ∙ sym (ap (take (width c)) (anchor-is-the-last out w ∙ ap (λ (m : ℕ). over (chain (step c) seed m) out) (sym e)) ∙ last)
 
 -- ---- refusal 8
 

@@ -2,13 +2,12 @@
 -- lent to a round as an earlier call left it passes every test. Assumes nothing.
 use mathlib.Core.Path.{_≡_, refl, sym, ap, _∙_}
 use mathlib.Core.Bool.{true}
-use mathlib.Core.List.{List, [], _∷_, _++_, map, append-assoc}
-use Prim.Native.Nat.{ℕ, zero, suc, _+_, _-_, _*_, _/_, _%_, _^_, _≤_, _<_}
+use mathlib.Core.List.{List, _++_, map, append-assoc}
+use Prim.Native.Nat.{ℕ, zero, suc, _+_, _-_, _/_, _^_, _≤_, _<_}
 use native.Mathlib.Nat.{mul-le-mul-left, pow-succ'}
 use native.Mathlib.Omega.{arith}
 use borrow.Author.Tests.{le-ltb, ne-eqb}
-use lib.Dec.{eqb, ltb}
-use lib.ListN.{length, take, drop, replicate, length-append, length-replicate}
+use lib.ListN.{length, drop, replicate, length-append, length-replicate}
 use lib.Pow.{pow-mono}
 use lib.Seq.{take-at, drop-at, drop-append-add}
 use Rattle.lists.specs.Values.{values, joined, values-joined, joined-length}
@@ -17,7 +16,7 @@ use Rattle.oneway.specs.Laws.{step-length}
 use Rattle.oneway.specs.Step.{known, width, step, littleEndian}
 use Rattle.oneway.specs.declared.Chain.{Chain}
 use Rattle.pebbling.specs.Demands.{never-more-than-slots}
-use Rattle.pebbling.specs.Recursion.{schedule, positions, chain, slots}
+use Rattle.pebbling.specs.Recursion.{schedule, positions, chain}
 use Rattle.card.specs.declared.Head.{Head}
 use Rattle.card.specs.declared.Inspected.the-variants.{Card}
 use Rattle.card.specs.Record.{chainOf, widthOf, held, heldBytes, slotBytes, size, headBytes, filled, cardBytes, number, headOf, heldValues, freeSlots, allZero, laidOut}

@@ -1,15 +1,12 @@
 -- What start, round and anchor promise, and that each promise leaves no choice. The right sides are definitions over what was lent;
 -- a refusal is a case of them: its number alone is said, and no byte changes. Assumes nothing.
 use mathlib.Core.Path.{_≡_, refl, sym, ap, _∙_}
-use mathlib.Core.Bool.{cond, not, _||_}
 use mathlib.Core.List.{List, [], _∷_}
-use Prim.Native.Nat.{ℕ, suc, _^_, _<_}
+use Prim.Native.Nat.{ℕ, _^_, _<_}
 use native.Mathlib.Omega.{arith}
-use lib.Dec.{eqb, ltb}
-use lib.ListN.{length}
 use Rattle.lists.specs.Values.{joined}
 use Rattle.lists.specs.Writing.{over}
-use Rattle.oneway.specs.Step.{known, width, step}
+use Rattle.oneway.specs.Step.{step}
 use Rattle.oneway.specs.declared.Chain.{Chain}
 use Rattle.pebbling.specs.Recursion.{schedule, putOut, work, tick, round, chain}
 use Rattle.refusals.specs.Numbers.{numberOf, saidOf, said-tells}
@@ -17,13 +14,11 @@ use Rattle.refusals.specs.declared.Refusal.{Refusal}
 use Rattle.refusals.specs.declared.Refusal.the-variants.{UnknownFunction, TooManyTicks, UnknownSchedule, WrongLength, BadRecord, Spent, BadGap, NoRoom, NotTaken}
 use Rattle.card.specs.declared.Head.{Head}
 use Rattle.card.specs.declared.Inspected.{Inspected}
-use Rattle.card.specs.declared.Inspected.the-variants.{Card}
-use Rattle.card.specs.declared.Inspected.the-variants.{Refused as TurnedDown}
+use Rattle.card.specs.declared.Inspected.the-variants.{Card, Refused as TurnedDown}
 use Rattle.card.specs.declared.Answer.{Answer}
 use Rattle.card.specs.declared.Answer.the-variants.{Done, Refused}
 use Rattle.card.specs.declared.RoundAnswer.{RoundAnswer}
-use Rattle.card.specs.declared.RoundAnswer.the-variants.{Quiet, Tick}
-use Rattle.card.specs.declared.RoundAnswer.the-variants.{Refused as NoRound}
+use Rattle.card.specs.declared.RoundAnswer.the-variants.{Quiet, Tick, Refused as NoRound}
 use Rattle.card.specs.Record.{chainOf, cardBytes, heldValues}
 use Rattle.card.specs.Refused.{later, startJudged, roundJudged, anchorJudged}
 

@@ -1,6 +1,6 @@
 -- The card record: document 01, "Records". `cardBytes` is what a record holds, and `headOf`, `heldValues` and `freeSlots` are what is
 -- read from one. Everything goes by the width of the chain's values. Assumes nothing.
-use mathlib.Core.Bool.{Bool, true, false, _&&_}
+use mathlib.Core.Bool.{Bool, true, _&&_}
 use mathlib.Core.List.{List, [], _∷_, _++_}
 use Prim.Native.Nat.{ℕ, _+_, _-_, _*_}
 use lib.Dec.{eqb}

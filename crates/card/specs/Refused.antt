@@ -11,8 +11,7 @@ use Rattle.refusals.specs.declared.Refusal.the-variants.{UnknownFunction, TooMa
 use Rattle.oneway.specs.declared.Chain.{Chain}
 use Rattle.card.specs.declared.Head.{Head}
 use Rattle.card.specs.declared.Answer.{Answer}
-use Rattle.card.specs.declared.Answer.the-variants.{Done}
-use Rattle.card.specs.declared.Answer.the-variants.{Refused as NotDone}
+use Rattle.card.specs.declared.Answer.the-variants.{Done, Refused as NotDone}
 use Rattle.card.specs.declared.Inspected.{Inspected}
 use Rattle.card.specs.declared.Inspected.the-variants.{Refused, Card}
 use Rattle.card.specs.Record.{widthOf, held, size, headOf, freeSlots, allZero, laidOut}

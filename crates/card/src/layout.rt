@@ -10,6 +10,7 @@ ghost use Rattle.card.specs.Refused.{numbers, inspectSlots, inspectOf};
 ghost use Rattle.card.specs.Steps.{Puttable};
 use super::Head;
 use super::Inspected;
+use super::held::held_values;
 use oneway::Chain;
 use pebbling::RoundNumber;
 use refusals::Refusal;
@@ -113,7 +114,7 @@ fn held_bytes(head: Head) -> usize
     if round.0 == pebbling::powers::power(k + 1) {
         return 0;
     }
-    let held = pebbling::tally::held_before(head.schedule, k, round);
+    let held = held_values(head.schedule, k, round);
     let w = oneway::width(Chain {
         function: head.function,
     });

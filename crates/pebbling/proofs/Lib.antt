@@ -2,4 +2,3 @@ pub mod HashLaws
 pub mod TallyLaws
 pub mod ListLaws
 pub mod PositionLaws
-pub mod HeldLaws

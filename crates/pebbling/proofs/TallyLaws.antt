@@ -17,7 +17,7 @@ use Rattle.pebbling.specs.Slots.{enough-slots}
 use Rattle.pebbling.specs.Totals.{work-lt}
 use Rattle.pebbling.specs.Promises.{Power, Done, Holds, Fitting, Tallied}
 
-pub slots-small : (s k : ℕ) → k ≤ 20 → slots s k ≤ 41
+slots-small : (s k : ℕ) → k ≤ 20 → slots s k ≤ 41
 unfolding slots
 slots-small s k h = go (eqb s 1)
   where

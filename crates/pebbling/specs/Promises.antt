@@ -49,16 +49,6 @@ pub record Tallied (s k r before after works : ℕ) : Type 0 where
   pub fewer : after ≤ 41
   pub small : works < 2 ^ k
 
--- the values that P_k holds before its round r
-pub record HeldBefore (s k r n : ℕ) : Type 0 where
-  pub holds : n ≡ length (positions (schedule s) k r 0)
-  pub few : n ≤ 41
-
--- the values that are held with c rounds left past round 2^k, which is the same for every such k
-pub record HeldLeft (s c n : ℕ) : Type 0 where
-  pub holds : (k r : ℕ) → c < 2 ^ k → r + c ≡ 2 ^ suc k → n ≡ length (positions (schedule s) k r 0)
-  pub few : n ≤ 41
-
 -- `ps` stored into a list from entry `at` on
 pub record Written (ps : List ℕ) (at : ℕ) (list : List ℕ) (end : ℕ) (list′ : List ℕ) : Type 0 where
   pub ends : end ≡ at + length ps

@@ -1,17 +1,13 @@
 // Counts over all the pebblers that run, by recursion into the child pebbler: P_k after its round 2^k is two
-// P_(k-1), one over each half of its positions, and only one of the two runs on into children. `held_before`
-// is the short way to the values held alone.
+// P_(k-1), one over each half of its positions, and only one of the two runs on into children.
 ghost use mathlib.Core.Path.{_≡_};
 ghost use Prim.Native.Nat.{suc, _+_, _^_, _≤_, _<_};
-ghost use Rattle.pebbling.specs.Promises.{Fitting, HeldBefore, HeldLeft, Tallied};
+ghost use Rattle.pebbling.specs.Promises.{Fitting, Tallied};
 use super::RoundNumber;
-use super::RoundsLeft;
 use super::hashes::hashes_done;
 use super::hashes::hashes_in;
 use super::hashes::held_after;
-use super::powers::bits;
 use super::powers::power;
-use super::rounds_left;
 
 // The values held before a round and after it, and the hashes in it.
 pub struct Tally {
@@ -77,34 +73,4 @@ pub fn count(schedule: u32, k: u32, round: RoundNumber) -> Tally
     let m = half + n;
     let upper = count(schedule, j, RoundNumber(m));
     together(upper, lower)
-}
-
-// The values held with so many rounds left, past round 2^k. P_i runs where bit i of the rounds left is set: the
-// highest of them is in its round 2^(i+1) less the rounds left, and the bits below it say which run beside it.
-fn held_with(schedule: u32, left: RoundsLeft) -> u32
-    requires { ⌜ (schedule ≤ 3) × (0 < left .0) × (left .0 < 1048576) ⌝ }
-    ensures { λ n. ⌜ HeldLeft schedule (left .0) n ⌝ }
-{
-    let c = left.0;
-    let i = bits(c) - 1;
-    let top = power(i);
-    let rest = c - top;
-    let own = held_after(i, hashes_done(schedule, i, RoundNumber(top - rest)));
-    if rest == 0 {
-        return own;
-    }
-    held_with(schedule, RoundsLeft(rest)) + own
-}
-
-// The values that a card holds before a round.
-pub fn held_before(schedule: u32, k: u32, round: RoundNumber) -> u32
-    requires { ⌜ (schedule ≤ 3) × (k ≤ 20) × (0 < round .0) × (round .0 < 2 ^ suc k) ⌝ }
-    ensures { λ n. ⌜ HeldBefore schedule k (round .0) n ⌝ }
-{
-    let r = round.0;
-    if r <= power(k) {
-        return held_after(k, hashes_done(schedule, k, round));
-    }
-    let left = rounds_left(k, round);
-    held_with(schedule, left)
 }

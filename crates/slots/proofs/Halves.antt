@@ -36,7 +36,7 @@ module _ (t : ℕ → ℕ → ℕ) (j n : ℕ) (0<n : 0 < n) where
   held-before = split n 0<n
 
   pub held-after : length (positions t (suc j) (suc (2 ^ suc j + n)) 0) ≡ length (positions t j (suc (2 ^ j + n)) 0) + length (positions t j (suc n) 0)
-  held-after = rw (add-suc, add-suc) at (split (suc n) (omega arith))
+  held-after = rw (add-suc (2 ^ suc j) n, add-suc (2 ^ j) n) at (split (suc n) (omega arith))
 
   -- ---- the children of P_(j+1) are what it is then
 

@@ -1,5 +1,5 @@
--- P_k past its round 2^k on slots: what `children` and `advance` come to over plain lists. With c rounds left no child above the highest bit of c runs, so
--- that P_k does what the P_(j+1) of that bit does; and that is two P_j, one behind the other. Assumes nothing.
+-- P_k past its round 2^k on slots: what `children` and `advance` come to over plain lists. No child above the highest bit of the rounds left runs, so that
+-- P_k does what the P_(j+1) of that bit does; and that is two P_j, one behind the other. Assumes nothing.
 use mathlib.Core.Path.{_≡_, sym, ap, _∙_}
 use mathlib.Core.List.{List}
 use mathlib.Core.Logic.{_⊎_, inl, inr}
@@ -14,7 +14,7 @@ use Rattle.lists.specs.Values.{values, values-length}
 use Rattle.oneway.specs.declared.Chain.{Chain}
 use Rattle.oneway.specs.Step.{width, step}
 use Rattle.pebbling.specs.HashesDone.{fair}
-use Rattle.pebbling.specs.Len.{len, len-law, len-le, len-lt, lt-len}
+use Rattle.pebbling.specs.Len.{len, len-law, len-le, len-lt, lt-len, not-zero}
 use Rattle.pebbling.specs.Promises.{Power, Bits, Left}
 use Rattle.pebbling.specs.Recursion.{schedule, positions}
 use Rattle.pebbling.specs.SideBySide.{work-split}
@@ -98,129 +98,136 @@ module _ {chain : Chain} {s j n : ℕ} {old new : List ℕ} (asked : Advancing c
             (both-round (schedule s) j n 0<n early (step chain) (values (width chain) a old) l)
             (moves-both upper (upper-inside .1) lower)
 
--- ---- P_k with c rounds left
+-- ---- the children of P_k in their round n
 
-abbrev Same : Chain → ℕ → List ℕ → List ℕ → ℕ → ℕ → ℕ → Type 0
-Same chain s old new c k j =
-    Advancing chain s j (2 ^ suc j - c) old new
-    × ((rd wr m : ℕ) (new′ : List ℕ) → Advanced chain s j (2 ^ suc j - c) old new rd wr m new′ → Advanced chain s k (2 ^ suc k - c) old new rd wr m new′)
+abbrev Same : Chain → ℕ → List ℕ → List ℕ → ℕ → ℕ → ℕ → ℕ → Type 0
+Same chain s old new k n j m =
+    Advancing chain s j (2 ^ j + m) old new
+    × ((rd wr h : ℕ) (new′ : List ℕ) → Advanced chain s j (2 ^ j + m) old new rd wr h new′ → Advanced chain s k (2 ^ k + n) old new rd wr h new′)
 
--- no child above P_j runs, so that P_k does what P_(j+1) does
-descend : {chain : Chain} {s : ℕ} {old new : List ℕ} (c : ℕ) → 0 < c → (k j : ℕ) → suc j ≤ k → c < 2 ^ suc j → Advancing chain s k (2 ^ suc k - c) old new
-    → Same chain s old new c k (suc j)
-descend c p zero j l h asked = absurd (omega arith)
-descend {chain} {s} {old} {new} c p (suc k) j l h asked = go (λ l a. descend c p k j l h a) (eq-or-lt-of-le l)
+-- no child above P_j runs, so that the children of P_k do what those of P_(j+1) do in their round m
+descend : {chain : Chain} {s : ℕ} {old new : List ℕ} (k n j m : ℕ) → suc j ≤ k → n + 2 ^ suc j ≡ m + 2 ^ k → Advancing chain s k (2 ^ k + n) old new
+    → Same chain s old new k n (suc j) m
+descend zero n j m l e asked = absurd (omega arith)
+descend {chain} {s} {old} {new} (suc k) n j m l e asked = go (λ l e a. descend k (n - 2 ^ k) j m l e a) (eq-or-lt-of-le l)
   where
-    go : (suc j ≤ k → Advancing chain s k (2 ^ suc k - c) old new → Same chain s old new c k (suc j)) → (suc j ≡ suc k) ⊎ (suc j < suc k)
-        → Same chain s old new c (suc k) (suc j)
-    go ih (inl e) = rw e (asked, λ rd wr m new′ moves. moves)
+    go : (suc j ≤ k → n - 2 ^ k + 2 ^ suc j ≡ m + 2 ^ k → Advancing chain s k (2 ^ k + (n - 2 ^ k)) old new → Same chain s old new k (n - 2 ^ k) (suc j) m)
+        → (suc j ≡ suc k) ⊎ (suc j < suc k) → Same chain s old new (suc k) n (suc j) m
+    go ih (inl u) =
+        let q : 2 ^ suc j ≡ 2 ^ suc k = ap (λ (x : ℕ). 2 ^ x) u in
+        let d : m ≡ n = omega arith in
+        rw (u, d) (asked, λ rd wr h new′ moves. moves)
     go ih (inr u) =
         let g : 2 ^ suc j ≤ 2 ^ k = pow-mono (omega arith) in
-        let e : 2 ^ suc (suc k) - c ≡ 2 ^ suc k + (2 ^ suc k - c) = omega arith in
-        let a : Advancing chain s (suc k) (2 ^ suc k + (2 ^ suc k - c)) old new = rw e at asked in
-        let d = ih (omega arith) (lower-alone-asks a (omega arith) (omega arith)) in
-        (d .0, λ rd wr m new′ moves. rw e (lower-alone a (omega arith) (omega arith) (d .1 rd wr m new′ moves)))
+        let late : 2 ^ k ≤ n = omega arith in
+        let d : n ≡ 2 ^ k + (n - 2 ^ k) = omega arith in
+        let 0<n : 0 < n = omega (arith, pow-pos k) in
+        let a : Advancing chain s k (2 ^ k + (n - 2 ^ k)) old new = rw d at (lower-alone-asks asked 0<n late) in
+        let b = ih (omega arith) (omega arith) a in
+        (b .0, λ rd wr h new′ moves. lower-alone asked 0<n late (rw d (b .1 rd wr h new′ moves)))
 
--- what the code has worked out: P_j is the highest child that runs
-pub record Splitting (chain : Chain) (s k c j half : ℕ) (old new : List ℕ) : Type 0 where
-  pub asked : Advancing chain s k (2 ^ suc k - c) old new
+-- what the code has worked out: P_j is the highest child that runs, and it is in its round m
+pub record Splitting (chain : Chain) (s k n j half m : ℕ) (old new : List ℕ) : Type 0 where
+  pub asked : Advancing chain s k (2 ^ k + n) old new
   pub under : suc j ≤ k
   pub is : half ≡ 2 ^ j
-  pub least : half ≤ c
-  pub below : c < half + half
+  pub round : n + 2 ^ suc j ≡ m + 2 ^ k
+  pub some : 0 < m
+  pub most : m ≤ half
 
-module _ {chain : Chain} {s k c l : ℕ} {old new : List ℕ} (asked : Advancing chain s k (2 ^ suc k - c) old new) (late : c < 2 ^ k) (b : Bits c l) where
-  some : 0 < len c
-  some = lt-len c 0 (omega (arith, asked .before))
+module _ {chain : Chain} {s k n : ℕ} {old new : List ℕ} (asked : Advancing chain s k (2 ^ k + n) old new) (0<n : 0 < n) where
+  pub level : suc (k - 1) ≡ k
+  level = omega (arith, not-zero k n 0<n (omega (arith, asked .before)))
 
-  pub bits-some : (1 ≤ l) × (l - 1 ≤ 21)
-  bits-some = (omega (arith, b .is, some), omega (arith, b .is, len-le c k late, asked .small))
+  pub rounds-asked : (k - 1 ≤ 20) × (n ≤ 2 ^ suc (k - 1))
+  rounds-asked = (omega (arith, asked .small), rw level (omega (arith, asked .before)))
 
-  pub splitting : {half : ℕ} → Power (l - 1) half → Splitting chain s k c (l - 1) half old new
-  splitting q =
-      let u : suc (l - 1) ≡ len c = omega (arith, b .is, some) in
-      let v : 2 ^ len c ≡ 2 * 2 ^ (l - 1) = ap (λ (x : ℕ). 2 ^ x) (sym u) ∙ omega arith in
-      record {
-        asked = asked;
-        under = omega (arith, len-le c k late);
-        is = q .is;
-        least = omega (arith, q .is, len-lt c (l - 1) (omega arith));
-        below = omega (arith, q .is, v, len-law c .below);
-      }
+  module _ {c l : ℕ} (left : Left (k - 1) n c) (b : Bits c l) where
+    whole : n + c ≡ 2 ^ k
+    whole = left .whole ∙ ap (λ (x : ℕ). 2 ^ x) level
 
-module _ {chain : Chain} {s k c j half : ℕ} {old new : List ℕ} (p : Splitting chain s k c j half old new) where
-  lower : Same chain s old new c k (suc j)
-  lower = descend c (omega (arith, p .is, p .least, pow-pos j)) k j (p .under) (omega (arith, p .is, p .below)) (p .asked)
+    above : (0 < c) × (c < 2 ^ k)
+    above = (omega (arith, whole, asked .before), omega (arith, whole))
 
-  -- P_j over the lower half is in its round 2^(j+1) - c
-  round-is : 2 ^ suc (suc j) - c ≡ 2 ^ suc j + (2 ^ suc j - c)
-  round-is = omega (arith, p .is, p .below)
+    pub bits-some : (1 ≤ l) × (l - 1 ≤ 21)
+    bits-some = (omega (arith, b .is, lt-len c 0 (above .0)), omega (arith, b .is, len-le c k (above .1), asked .small))
 
-  halves : Advancing chain s (suc j) (2 ^ suc j + (2 ^ suc j - c)) old new
-  halves = rw round-is at (lower .0)
+    module _ {half all : ℕ} (q : Power (l - 1) half) (p : Power k all) where
+      under : suc (l - 1) ≡ len c
+      under = omega (arith, b .is, lt-len c 0 (above .0))
 
-  begun : 0 < 2 ^ suc j - c
-  begun = omega (arith, p .is, p .below)
+      least : 2 ^ (l - 1) ≤ c
+      least = len-lt c (l - 1) (omega (arith, under))
 
-  -- it puts out
-  module _ (e : c ≡ half) where
-    last : 2 ^ suc j - c ≡ 2 ^ j
-    last = omega (arith, p .is)
+      below : c < 2 ^ suc (l - 1)
+      below = rw under (len-law c .below)
 
-    ended : 2 ^ j ≤ 2 ^ suc j - c
+      pub ended-fits : (2 * half ≤ all) × (all - 2 * half ≤ n)
+      ended-fits =
+          let g : 2 ^ suc (l - 1) ≤ 2 ^ k = rw under (pow-mono (len-le c k (above .1))) in
+          (omega (arith, q .is, p .is), omega (arith, q .is, p .is, whole, below))
+
+      pub splitting : Splitting chain s k n (l - 1) half (n - (all - 2 * half)) old new
+      splitting =
+          record {
+            asked = asked;
+            under = omega (arith, under, len-le c k (above .1));
+            is = q .is;
+            round = omega (arith, q .is, p .is, ended-fits);
+            some = omega (arith, q .is, p .is, whole, below, ended-fits);
+            most = omega (arith, q .is, p .is, whole, least, ended-fits);
+          }
+
+module _ {chain : Chain} {s k n j half m : ℕ} {old new : List ℕ} (p : Splitting chain s k n j half m old new) where
+  halves : Same chain s old new k n (suc j) m
+  halves = descend k n j m (p .under) (p .round) (p .asked)
+
+  -- P_j puts out
+  module _ (e : m ≡ half) where
+    last : m ≡ 2 ^ j
+    last = e ∙ p .is
+
+    ended : 2 ^ j ≤ m
     ended = omega (arith, last)
 
     pub last-asks : (j ≤ 20) × (width chain * suc j ≤ length old) × (width chain * j ≤ length new)
-    last-asks = out-asks (lower-alone-asks halves begun ended) last
+    last-asks = out-asks (lower-alone-asks (halves .0) (p .some) ended) last
 
-    pub last-moves : {rd wr m : ℕ} {new′ : List ℕ} → Moves (width chain) (suc j) j 0 (drop 1) old new rd wr m new′
-        → Advanced chain s k (2 ^ suc k - c) old new rd wr m new′
-    last-moves moves = lower .1 _ _ _ _ (rw round-is (lower-alone halves begun ended (out-moves (lower-alone-asks halves begun ended) last moves)))
+    pub last-moves : {rd wr h : ℕ} {new′ : List ℕ} → Moves (width chain) (suc j) j 0 (drop 1) old new rd wr h new′
+        → Advanced chain s k (2 ^ k + n) old new rd wr h new′
+    last-moves moves = halves .1 _ _ _ _ (lower-alone (halves .0) (p .some) ended (out-moves (lower-alone-asks (halves .0) (p .some) ended) last moves))
 
   -- it prepares, behind the children of the P_j over the upper half
-  module _ (n : c ≡ half → ⊥) where
-    early : 2 ^ suc j - c < 2 ^ j
-    early = omega (arith, p .is, p .least)
+  module _ (not : m ≡ half → ⊥) where
+    early : m < 2 ^ j
+    early = omega (arith, p .is, p .most)
 
-    upper-round : 2 ^ j + (2 ^ suc j - c) ≡ 2 ^ suc j - (c - half)
-    upper-round = omega (arith, p .is, p .least, p .below)
+    pub upper-asks : Advancing chain s j (2 ^ j + m) old new × (0 < m)
+    upper-asks = (upper-first-asks (halves .0) (p .some) early, p .some)
 
-    lower-round : half - (c - half) ≡ 2 ^ suc j - c
-    lower-round = omega (arith, p .is, p .least, p .below)
-
-    pub upper-asks : Advancing chain s j (2 ^ suc j - (c - half)) old new × (c - half < 2 ^ j)
-    upper-asks = (rw upper-round at (upper-first-asks halves begun early), omega (arith, p .is, p .below))
-
-    module _ {rd wr m : ℕ} {mid : List ℕ} (upper : Advanced chain s j (2 ^ suc j - (c - half)) old new rd wr m mid) (kept : length mid ≡ length new) where
-      first : Advanced chain s j (2 ^ j + (2 ^ suc j - c)) old new rd wr m mid
-      first = rw upper-round upper
-
+    module _ {rd wr h : ℕ} {mid : List ℕ} (upper : Advanced chain s j (2 ^ j + m) old new rd wr h mid) (kept : length mid ≡ length new) where
       pub upper-fits : (rd ≤ length old) × (wr ≤ length mid)
-      upper-fits = upper-inside halves begun early first kept
+      upper-fits = upper-inside (halves .0) (p .some) early upper kept
 
-      pub lower-asks : Advancing chain s j (half - (c - half)) (take (length old - rd) (drop rd old)) (take (length mid - wr) (drop wr mid)) × (half - (c - half) < 2 ^ j)
-      lower-asks = rw lower-round (lower-behind-asks halves begun early first kept, early)
+      pub lower-asks : Advancing chain s j m (take (length old - rd) (drop rd old)) (take (length mid - wr) (drop wr mid)) × (m < 2 ^ j)
+      lower-asks = (lower-behind-asks (halves .0) (p .some) early upper kept, early)
 
-      module _ {rd′ wr′ m′ : ℕ} {y : List ℕ}
-          (own : Advanced chain s j (half - (c - half)) (take (length old - rd) (drop rd old)) (take (length mid - wr) (drop wr mid)) rd′ wr′ m′ y) where
-        second : Advanced chain s j (2 ^ suc j - c) (take (length old - rd) (drop rd old)) (take (length mid - wr) (drop wr mid)) rd′ wr′ m′ y
-        second = rw lower-round at own
+      module _ {rd′ wr′ h′ : ℕ} {y : List ℕ} (lower : Advanced chain s j m (take (length old - rd) (drop rd old)) (take (length mid - wr) (drop wr mid)) rd′ wr′ h′ y) where
+        pub both-fit : (rd + rd′ ≤ length old) × (wr + wr′ ≤ length new) × (h + h′ < 2 * 2 ^ j)
+        both-fit = halves-fit (halves .0) (p .some) early upper kept lower
 
-        pub both-fit : (rd + rd′ ≤ length old) × (wr + wr′ ≤ length new) × (m + m′ < 2 * 2 ^ j)
-        both-fit = halves-fit halves begun early first kept second
+        pub both-move : {rds wrs hs : ℕ} → (rds ≡ rd + rd′) × (wrs ≡ wr + wr′) × (hs ≡ h + h′)
+            → Advanced chain s k (2 ^ k + n) old new rds wrs hs (putMid wr (length mid - wr) mid y)
+        both-move sums = rw (sums .0, sums .1, sums .2) (halves .1 _ _ _ _ (halves-move (halves .0) (p .some) early upper kept lower))
 
-        pub both-move : {rds wrs ms : ℕ} → (rds ≡ rd + rd′) × (wrs ≡ wr + wr′) × (ms ≡ m + m′)
-            → Advanced chain s k (2 ^ suc k - c) old new rds wrs ms (putMid wr (length mid - wr) mid y)
-        both-move sums = rw (sums .0, sums .1, sums .2) (lower .1 _ _ _ _ (rw round-is (halves-move halves begun early first kept second)))
+-- ---- advance: past round 2^k
 
--- ---- advance: past round 2^k, by the rounds left
+module _ {chain : Chain} {s k r whole : ℕ} {old new : List ℕ} (asked : Advancing chain s k r old new) (p : Power k whole) (late : whole < r) where
+  since : r ≡ 2 ^ k + (r - whole)
+  since = omega (arith, p .is)
 
-module _ {chain : Chain} {s k r c : ℕ} {old new : List ℕ} (asked : Advancing chain s k r old new) (l : Left k r c) where
-  counted : r ≡ 2 ^ suc k - c
-  counted = omega (arith, l .whole)
+  pub late-asks : Advancing chain s k (2 ^ k + (r - whole)) old new × (0 < r - whole)
+  late-asks = (rw since at asked, omega arith)
 
-  pub left-asks : 2 ^ k < r → Advancing chain s k (2 ^ suc k - c) old new × (c < 2 ^ k)
-  left-asks h = (rw counted at asked, omega (arith, l .whole))
-
-  pub left-moves : {rd wr m : ℕ} {new′ : List ℕ} → Advanced chain s k (2 ^ suc k - c) old new rd wr m new′ → Advanced chain s k r old new rd wr m new′
-  left-moves moves = rw counted moves
+  pub late-moves : {rd wr h : ℕ} {new′ : List ℕ} → Advanced chain s k (2 ^ k + (r - whole)) old new rd wr h new′ → Advanced chain s k r old new rd wr h new′
+  late-moves moves = rw since moves

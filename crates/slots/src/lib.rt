@@ -2,7 +2,7 @@
 // `old`; those held after it are written from the front of `new`, and no byte behind them is touched. Which values are held
 // follows from the level, the schedule and the round alone.
 ghost use mathlib.Core.Path.{_≡_};
-ghost use Prim.Native.Nat.{suc, _+_, _-_, _*_, _^_, _≤_, _<_};
+ghost use Prim.Native.Nat.{suc, _+_, _*_, _^_, _≤_, _<_};
 ghost use lib.Dec.{T};
 ghost use lib.ListN.{length, take, drop};
 ghost use Rattle.lists.specs.Writing.{over};
@@ -12,7 +12,6 @@ ghost use Rattle.slots.specs.Hashing.{Opening, Opened, Hashing, Hashed};
 ghost use Rattle.slots.specs.Moves.{Moves, Advancing, Advanced, Fits};
 use oneway::Chain;
 use pebbling::RoundNumber;
-use pebbling::RoundsLeft;
 use pebbling::hashes::hashes_done;
 use pebbling::hashes::hashes_in;
 use pebbling::hashes::held_after;
@@ -149,32 +148,33 @@ fn together(upper: Moved, lower: Moved) -> Moved
     }
 }
 
-// P_k past its round 2^k, with so many rounds left: its children side by side. Child P_j runs where bit j of the rounds left is
-// set. The highest that runs is P_j over the lower half of the positions of P_(j+1); with more rounds left than 2^j it prepares,
-// behind the children of the P_j over the upper half, and with 2^j it puts out and is the last.
+// P_0 to P_(k-1) side by side, each in this round; one that has ended is followed into its own children, 2^i rounds on. The
+// highest bit of the rounds left names the highest that runs, P_j. Up to its round 2^j its values stand behind those of P_0 to
+// P_(j-1), which are in the same round then; in round 2^j they have ended.
 fn children(
     chain: Chain,
     schedule: u32,
     k: u32,
-    left: RoundsLeft,
+    round: RoundNumber,
     old: &[u8],
     new: &mut [u8],
 ) -> Moved
-    requires { ⌜ Advancing chain schedule k (2 ^ suc k - left .0) (now old) (now new) ⌝ }
-    requires { ⌜ left .0 < 2 ^ k ⌝ }
-    ensures { λ m. ⌜ Advanced chain schedule k (2 ^ suc k - left .0) (now (old .entry)) (now (new .entry)) (m .read) (m .written) (m .hashes) (now (new .exit)) ⌝ }
+    requires { ⌜ Advancing chain schedule k (2 ^ k + round .0) (now old) (now new) ⌝ }
+    requires { ⌜ 0 < round .0 ⌝ }
+    ensures { λ m. ⌜ Advanced chain schedule k (2 ^ k + round .0) (now (old .entry)) (now (new .entry)) (m .read) (m .written) (m .hashes) (now (new .exit)) ⌝ }
 {
-    let c = left.0;
-    let j = bits(c) - 1;
+    let r = round.0;
+    let left = rounds_left(k - 1, round);
+    let j = bits(left.0) - 1;
     let half = power(j);
-    if c == half {
+    let ended = power(k) - 2 * half;
+    let n = r - ended;
+    if n == half {
         return put_out(chain, j, old, new);
     }
-    let rest = c - half;
-    let upper = children(chain, schedule, j, RoundsLeft(rest), old, new);
+    let upper = children(chain, schedule, j, RoundNumber(n), old, new);
     let read = upper.read;
     let written = upper.written;
-    let n = half - rest;
     let lower = prepare(
         chain,
         schedule,
@@ -186,7 +186,7 @@ fn children(
     together(upper, lower)
 }
 
-// A round of P_k, its children with it. Up to round 2^k it runs itself, and then its children run.
+// A round of P_k, its children with it. Up to round 2^k it runs itself, and from the next round its children run.
 pub fn advance(
     chain: Chain,
     schedule: u32,
@@ -206,6 +206,6 @@ pub fn advance(
     if r == whole {
         return put_out(chain, k, old, new);
     }
-    let left = rounds_left(k, round);
-    children(chain, schedule, k, left, old, new)
+    let n = r - whole;
+    children(chain, schedule, k, RoundNumber(n), old, new)
 }

@@ -1,11 +1,9 @@
 -- `card::later` meets its contract. Assumes nothing.
-use native.Mathlib.Numerals.{add-one}
 use mathlib.Core.Path.{refl}
+use native.Mathlib.Numerals.{add-one}
 use borrow.Author.Needs.{needs}
 use Rattle.card.proofs.later.Statement.{statement}
 use Rattle.card.proofs.later.Tie as tie
-use Rattle.card.proofs.later.Reads as reads
-use Rattle.card.proofs.later.Lts as lts
 
 add-t4 : tie.Need-add-t4
 add-t4 c = search needs

@@ -1,14 +1,10 @@
 -- `card::round` meets its contract. Assumes nothing.
-use Rattle.card.proofs.TurnLaws.{round-refused, round-turned}
-use Rattle.card.specs.Sound.{sound}
 use mathlib.Core.Path.{sym, _∙_}
 use borrow.Author.Needs.{needs}
+use Rattle.card.proofs.TurnLaws.{round-refused, round-turned}
+use Rattle.card.specs.Sound.{sound}
 use Rattle.card.proofs.round.Statement.{statement}
 use Rattle.card.proofs.round.Tie as tie
-use Rattle.card.proofs.round.Reads as reads
-use Rattle.card.proofs.round.Lts as lts
-use Rattle.card.proofs.layout.inspect.Reads as inspect-reads
-use Rattle.card.proofs.turn.Reads as turn-reads
 
 inspect-requires : tie.Need-inspect-requires
 inspect-requires c κs = search needs
@@ -20,7 +16,10 @@ enum-known-seen-2 : tie.Need-enum-known-seen-2
 enum-known-seen-2 c = search needs
 
 turn-requires : tie.Need-turn-requires
-turn-requires c κs = sound _ _ (sym (c .before .before .before .before .before .inspect .ensures) ∙ c .before .before .before .seen2 .given .1)
+turn-requires c κs =
+    let at-seen2 = c .before .before .before in
+    let at-inspect = at-seen2 .before .before in
+    sound _ _ (sym (at-inspect .inspect .ensures) ∙ at-seen2 .seen2 .given .1)
 
 same-length : tie.Need-same-length
 same-length c = search needs
@@ -35,7 +34,11 @@ same-length-3 : tie.Need-same-length-3
 same-length-3 c = search needs
 
 returns-2 : tie.Need-returns-2
-returns-2 c = round-turned _ _ _ (c .before .before .before .before .before .before .before .before .before .before .inspect .ensures) _ _ _ _ (c .before .before .before .before .before .before .before .before .seen2 .given .1) (c .before .before .before .before .turn .ensures)
+returns-2 c =
+    let at-turn = c .before .before .before .before in
+    let at-seen2 = at-turn .before .before .before .before in
+    let at-inspect = at-seen2 .before .before in
+    round-turned _ _ _ (at-inspect .inspect .ensures) _ _ _ _ (at-seen2 .seen2 .given .1) (at-turn .turn .ensures)
 
 pub round-spec : {M : Type 1} → statement M
 round-spec =

@@ -1,13 +1,8 @@
 -- `card::turn` meets its contract. Assumes nothing.
-use Rattle.card.proofs.TurnLaws.{turned-spent, turned-short, run-asks}
 use borrow.Author.Needs.{needs}
+use Rattle.card.proofs.TurnLaws.{turned-spent, turned-short, run-asks}
 use Rattle.card.proofs.turn.Statement.{statement}
 use Rattle.card.proofs.turn.Tie as tie
-use Rattle.card.proofs.turn.Reads as reads
-use Rattle.card.proofs.turn.Lts as lts
-use Rattle.card.proofs.run.Reads as run-reads
-use Rattle.oneway.proofs.width.Reads as width-reads
-use Rattle.pebbling.proofs.powers.power.Reads as power-reads
 
 add-power : tie.Need-add-power
 add-power c = search needs
@@ -16,16 +11,30 @@ power-requires : tie.Need-power-requires
 power-requires c κs = search needs
 
 returns : tie.Need-returns
-returns c = turned-spent (c .before .before .before .before .before .before .before .args .head) (c .before .before .before .before .before .before .before .args .card .now) (c .before .before .before .before .before .before .before .args .out .now) (c .before .before .before .before .before .before .before .pre) _ (c .before .before .power .ensures) (c .if1 .taken)
+returns c =
+    let at-power = c .before .before in
+    let start = at-power .before .before .before .before .before in
+    turned-spent (start .args .head) (start .args .card .now) (start .args .out .now) (start .pre) _ (at-power .power .ensures) (c .if1 .taken)
 
 width-requires : tie.Need-width-requires
 width-requires c κs = search needs
 
 returns-2 : tie.Need-returns-2
-returns-2 c = turned-short (c .before .before .before .before .before .before .before .before .args .head) (c .before .before .before .before .before .before .before .before .args .card .now) (c .before .before .before .before .before .before .before .before .args .out .now) (c .before .before .before .before .before .before .before .before .pre) _ (c .before .before .before .power .ensures) (c .before .if1 .left) _ (c .before .before .width .ensures) (c .if2 .taken)
+returns-2 c =
+    let at-if1 = c .before in
+    let at-width = at-if1 .before in
+    let at-power = at-width .before in
+    let start = at-power .before .before .before .before .before in
+    turned-short (start .args .head) (start .args .card .now) (start .args .out .now) (start .pre) _ (at-power .power .ensures) (at-if1 .if1 .left) _ (at-width .width .ensures) (c .if2 .taken)
 
 run-requires : tie.Need-run-requires
-run-requires c κs = run-asks (c .before .before .before .before .before .before .before .before .before .before .args .head) (c .before .before .before .before .before .before .before .before .before .before .args .card .now) (c .before .before .before .before .before .before .before .before .before .before .args .out .now) (c .before .before .before .before .before .before .before .before .before .before .pre) _ (c .before .before .before .before .before .power .ensures) (c .before .before .before .if1 .left) _ (c .before .before .before .before .width .ensures) (c .before .before .if2 .left)
+run-requires c κs =
+    let at-if2 = c .before .before in
+    let at-if1 = at-if2 .before in
+    let at-width = at-if1 .before in
+    let at-power = at-width .before in
+    let start = at-power .before .before .before .before .before in
+    run-asks (start .args .head) (start .args .card .now) (start .args .out .now) (start .pre) _ (at-power .power .ensures) (at-if1 .if1 .left) _ (at-width .width .ensures) (at-if2 .if2 .left)
 
 same-length : tie.Need-same-length
 same-length c = search needs

@@ -1,14 +1,11 @@
 -- `card::walk` meets its contract. The loop's invariant: after i steps the value is the chain's element i. Assumes nothing.
-use Rattle.card.proofs.StartLaws.{Walking, walking-none, walking-next, walked}
+use mathlib.Core.Path.{_∙_}
 use Prim.Native.Nat.{_-_, _≤_}
 use native.Mathlib.Omega.{arith}
-use mathlib.Core.Path.{_∙_}
 use borrow.Author.Needs.{needs}
+use Rattle.card.proofs.StartLaws.{Walking, walking-none, walking-next, walked}
 use Rattle.card.proofs.walk.Statement.{statement}
 use Rattle.card.proofs.walk.Tie as tie
-use Rattle.card.proofs.walk.Reads as reads
-use Rattle.card.proofs.walk.Lts as lts
-use Rattle.oneway.proofs.apply.Reads as apply-reads
 
 abbrev Inv-loop : tie.InvT-loop
 Inv-loop chain n value₀ i₀ value i = (i ≤ n) × Walking chain value₀ value i
@@ -20,7 +17,10 @@ loop-holds : tie.Need-loop-holds Inv-loop μ-loop
 loop-holds c = (omega arith, walking-none _ _ (c .before .pre .1))
 
 apply-requires : tie.Need-apply-requires Inv-loop μ-loop
-apply-requires c κs = (c .before .before .before .before .pre .0, c .before .before .loop .inv .1 .sized ∙ c .before .before .loop .inv .1 .wide)
+apply-requires c κs =
+    let at-loop = c .before .before in
+    let start = at-loop .before .before in
+    (start .pre .0, at-loop .loop .inv .1 .sized ∙ at-loop .loop .inv .1 .wide)
 
 add-i : tie.Need-add-i Inv-loop μ-loop
 add-i c = search needs
@@ -29,7 +29,10 @@ loop-less : tie.Need-loop-less Inv-loop μ-loop
 loop-less c = omega arith
 
 loop-again : tie.Need-loop-again Inv-loop μ-loop
-loop-again c = (omega arith, walking-next _ _ _ _ _ (c .before .before .before .before .before .loop .inv .1) (c .before .before .apply .ensures))
+loop-again c =
+    let at-apply = c .before .before in
+    let at-loop = at-apply .before .before .before in
+    (omega arith, walking-next _ _ _ _ _ (at-loop .loop .inv .1) (at-apply .apply .ensures))
 
 same-length : tie.Need-same-length Inv-loop μ-loop
 same-length c = c .before .loop .inv .1 .sized

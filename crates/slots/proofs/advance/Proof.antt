@@ -1,9 +1,9 @@
--- `slots::advance` meets its contract: before round 2^k P_k prepares, in it P_k puts out, and past it its children run, by the rounds left. Assumes nothing.
+-- `slots::advance` meets its contract: before round 2^k P_k prepares, in it P_k puts out, and past it its children run. Assumes nothing.
 use borrow.Author.Needs.{needs}
 use mathlib.Core.Path.{_∙_}
 use native.Mathlib.Omega.{arith}
 use Rattle.slots.proofs.OwnRound.{out-asks, out-moves}
-use Rattle.slots.proofs.SideBySide.{left-asks, left-moves}
+use Rattle.slots.proofs.SideBySide.{late-asks, late-moves}
 use Rattle.slots.proofs.advance.Statement.{statement}
 use Rattle.slots.proofs.advance.Tie as tie
 
@@ -37,17 +37,12 @@ returns-2 c =
     let s = q .before .before .before in
     out-moves (s .pre) (e .if2 .taken ∙ q .power .ensures .is) (o .put-out .ensures)
 
-rounds-left-requires : tie.Need-rounds-left-requires
-rounds-left-requires c κs = search needs
-
 children-requires : tie.Need-children-requires
 children-requires c κs =
-    let l = c .before in
-    let e = l .before in
+    let e = c .before in
     let q = e .before .before in
     let s = q .before .before .before in
-    left-asks (s .pre) (l .rounds-left .ensures)
-    (omega (arith, e .before .if1 .left, e .if2 .left, q .power .ensures .is))
+    late-asks (s .pre) (q .power .ensures) (omega (arith, e .before .if1 .left, e .if2 .left))
 
 same-length-3 : tie.Need-same-length-3
 same-length-3 c = search needs
@@ -55,9 +50,10 @@ same-length-3 c = search needs
 returns-3 : tie.Need-returns-3
 returns-3 c =
     let d = c .before .before in
-    let l = d .before .before in
-    let s = l .before .before .before .before .before .before in
-    left-moves (s .pre) (l .rounds-left .ensures) (d .children .ensures)
+    let e = d .before .before in
+    let q = e .before .before in
+    let s = q .before .before .before in
+    late-moves (s .pre) (q .power .ensures) (omega (arith, e .before .if1 .left, e .if2 .left)) (d .children .ensures)
 
 pub advance-spec : {M : Type 1} → statement M
 advance-spec =
@@ -70,7 +66,6 @@ advance-spec =
     put-out-requires
     same-length-2
     returns-2
-    rounds-left-requires
     children-requires
     same-length-3
     returns-3)

@@ -31,7 +31,7 @@ part-copy-start : tie.Need-part-copy-start
 part-copy-start c = search needs
 
 part-copy-end : tie.Need-part-copy-end
-part-copy-end c = fits c .0
+part-copy-end c = omega (arith, fits c)
 
 copy-requires : tie.Need-copy-requires
 copy-requires c κs = let q = fits (c .before .before) in simp (length-take, length-drop) (omega arith)

@@ -1,11 +1,9 @@
 -- `card::layout::head_bytes` meets its contract: the quotients are those of the definition. Assumes nothing.
-use Rattle.card.specs.Record.{headBytes}
 use mathlib.Core.Path.{refl}
 use borrow.Author.Needs.{needs}
+use Rattle.card.specs.Record.{headBytes}
 use Rattle.card.proofs.layout.head_bytes.Statement.{statement}
 use Rattle.card.proofs.layout.head_bytes.Tie as tie
-use Rattle.card.proofs.layout.head_bytes.Reads as reads
-use Rattle.card.proofs.layout.head_bytes.Lts as lts
 
 array-read-t10 : tie.Need-array-read-t10
 array-read-t10 c = search needs

@@ -1,16 +1,10 @@
 -- `card::layout::inspect` meets its contract. Assumes nothing.
-use Rattle.card.proofs.ReadLaws.{record-short, record-strange, head-refused, head-passed}
-use Rattle.card.specs.Sound.{numbers-known}
 use mathlib.Core.Path.{sym, _∙_}
 use borrow.Author.Needs.{needs}
+use Rattle.card.proofs.ReadLaws.{record-short, record-strange, head-refused, head-passed}
+use Rattle.card.specs.Sound.{numbers-known}
 use Rattle.card.proofs.layout.inspect.Statement.{statement}
 use Rattle.card.proofs.layout.inspect.Tie as tie
-use Rattle.card.proofs.layout.inspect.Reads as reads
-use Rattle.card.proofs.layout.inspect.Lts as lts
-use Rattle.card.proofs.layout.check_numbers.Reads as check-numbers-reads
-use Rattle.card.proofs.layout.inspect_slots.Reads as inspect-slots-reads
-use Rattle.card.proofs.layout.laid_out.Reads as laid-out-reads
-use Rattle.card.proofs.layout.read_head.Reads as read-head-reads
 
 returns : tie.Need-returns
 returns c = record-short _ (c .if1 .taken)
@@ -34,12 +28,25 @@ inspect-slots-requires : tie.Need-inspect-slots-requires
 inspect-slots-requires c κs = let n = numbers-known _ _ (sym (c .before .before .before .check-numbers .ensures) ∙ c .before .checked2 .given .1) in (n .schedule, n .small)
 
 returns-2 : tie.Need-returns-2
-returns-2 c = head-refused _ (c .before .before .before .before .before .before .before .if1 .left) _ (c .before .before .before .before .before .before .laid-out .ensures) (c .before .before .before .before .before .if2 .taken) _ (c .before .before .before .before .read-head .ensures) _ (c .before .before .before .check-numbers .ensures) _ (c .before .checked .given .1)
+returns-2 c =
+    let at-checked = c .before in
+    let at-check-numbers = at-checked .before .before in
+    let at-read-head = at-check-numbers .before in
+    let at-if2 = at-read-head .before in
+    let at-laid-out = at-if2 .before in
+    let at-if1 = at-laid-out .before in
+    head-refused _ (at-if1 .if1 .left) _ (at-laid-out .laid-out .ensures) (at-if2 .if2 .taken) _ (at-read-head .read-head .ensures) _ (at-check-numbers .check-numbers .ensures) _ (at-checked .checked .given .1)
 
 returns-3 : tie.Need-returns-3
 returns-3 c =
+    let at-checked2 = c .before .before in
+    let at-check-numbers = at-checked2 .before .before in
+    let at-read-head = at-check-numbers .before in
+    let at-if2 = at-read-head .before in
+    let at-laid-out = at-if2 .before in
+    let at-if1 = at-laid-out .before in
     c .inspect-slots .ensures
-    ∙ head-passed _ (c .before .before .before .before .before .before .before .before .if1 .left) _ (c .before .before .before .before .before .before .before .laid-out .ensures) (c .before .before .before .before .before .before .if2 .taken) _ (c .before .before .before .before .before .read-head .ensures) _ (c .before .before .before .before .check-numbers .ensures) _ (c .before .before .checked2 .given .1)
+    ∙ head-passed _ (at-if1 .if1 .left) _ (at-laid-out .laid-out .ensures) (at-if2 .if2 .taken) _ (at-read-head .read-head .ensures) _ (at-check-numbers .check-numbers .ensures) _ (at-checked2 .checked2 .given .1)
 
 returns-4 : tie.Need-returns-4
 returns-4 c = record-strange _ (c .before .before .if1 .left) _ (c .before .laid-out .ensures) (c .if2 .left)

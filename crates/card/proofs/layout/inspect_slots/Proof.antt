@@ -1,15 +1,9 @@
 -- `card::layout::inspect_slots` meets its contract. Assumes nothing.
 use native.Mathlib.Omega.{arith}
-use Rattle.card.proofs.ReadLaws.{slots-short, round-none, round-over, round-in, free-zero, free-used}
 use borrow.Author.Needs.{needs}
+use Rattle.card.proofs.ReadLaws.{slots-short, round-none, round-over, round-in, free-zero, free-used}
 use Rattle.card.proofs.layout.inspect_slots.Statement.{statement}
 use Rattle.card.proofs.layout.inspect_slots.Tie as tie
-use Rattle.card.proofs.layout.inspect_slots.Reads as reads
-use Rattle.card.proofs.layout.inspect_slots.Lts as lts
-use Rattle.card.proofs.layout.held_bytes.Reads as held-bytes-reads
-use Rattle.card.proofs.layout.slot_bytes.Reads as slot-bytes-reads
-use Rattle.card.proofs.layout.zeros.Reads as zeros-reads
-use Rattle.pebbling.proofs.powers.power.Reads as power-reads
 
 slot-bytes-requires : tie.Need-slot-bytes-requires
 slot-bytes-requires c κs = search needs
@@ -18,10 +12,16 @@ add-end : tie.Need-add-end
 add-end c = search needs
 
 returns : tie.Need-returns
-returns c = slots-short (c .before .before .before .args .card .now) (c .before .before .before .args .head) _ (c .before .slot-bytes .ensures) (c .if1 .taken)
+returns c =
+    let s = c .before .before .before in
+    slots-short (s .args .card .now) (s .args .head) _ (c .before .slot-bytes .ensures) (c .if1 .taken)
 
 returns-2 : tie.Need-returns-2
-returns-2 c = round-none (c .before .before .before .before .before .args .card .now) (c .before .before .before .before .before .args .head) _ (c .before .before .before .slot-bytes .ensures) (c .before .before .if1 .left) (c .if2 .taken)
+returns-2 c =
+    let at-if1 = c .before .before in
+    let at-slot-bytes = at-if1 .before in
+    let start = at-slot-bytes .before .before in
+    round-none (start .args .card .now) (start .args .head) _ (at-slot-bytes .slot-bytes .ensures) (at-if1 .if1 .left) (c .if2 .taken)
 
 add-power : tie.Need-add-power
 add-power c = search needs
@@ -30,12 +30,22 @@ power-requires : tie.Need-power-requires
 power-requires c κs = search needs
 
 returns-3 : tie.Need-returns-3
-returns-3 c = round-over (c .before .before .before .before .before .before .before .before .args .card .now) (c .before .before .before .before .before .before .before .before .args .head) _ (c .before .before .before .before .before .before .slot-bytes .ensures) (c .before .before .before .before .before .if1 .left) (c .before .before .before .if2 .left) _ (c .before .power .ensures) (c .if3 .taken)
+returns-3 c =
+    let at-power = c .before in
+    let at-if2 = at-power .before .before in
+    let at-if1 = at-if2 .before .before in
+    let at-slot-bytes = at-if1 .before in
+    let start = at-slot-bytes .before .before in
+    round-over (start .args .card .now) (start .args .head) _ (at-slot-bytes .slot-bytes .ensures) (at-if1 .if1 .left) (at-if2 .if2 .left) _ (at-power .power .ensures) (c .if3 .taken)
 
 held-bytes-requires : tie.Need-held-bytes-requires
 held-bytes-requires c κs =
-    let s = c .before .before .before .before .before .before .before .before in
-    (s .pre .0, s .pre .1, omega (arith, c .before .before .before .if2 .left), round-in (s .args .card .now) (s .args .head) _ (c .before .before .before .before .before .before .slot-bytes .ensures) (c .before .before .before .before .before .if1 .left) (c .before .before .before .if2 .left) _ (c .before .power .ensures) (c .if3 .left))
+    let at-power = c .before in
+    let at-if2 = at-power .before .before in
+    let at-if1 = at-if2 .before .before in
+    let at-slot-bytes = at-if1 .before in
+    let start = at-slot-bytes .before .before in
+    (start .pre .0, start .pre .1, omega (arith, at-if2 .if2 .left), round-in (start .args .card .now) (start .args .head) _ (at-slot-bytes .slot-bytes .ensures) (at-if1 .if1 .left) (at-if2 .if2 .left) _ (at-power .power .ensures) (c .if3 .left))
 
 add-from : tie.Need-add-from
 add-from c = search needs
@@ -54,11 +64,27 @@ zeros-requires c κs = search needs
 
 returns-4 : tie.Need-returns-4
 returns-4 c =
-    free-zero (c .before .before .before .before .before .before .before .before .before .before .before .before .args .card .now) (c .before .before .before .before .before .before .before .before .before .before .before .before .args .head) _ (c .before .before .before .before .before .before .before .before .before .before .slot-bytes .ensures) (c .before .before .before .before .before .before .before .before .before .if1 .left) (c .before .before .before .before .before .before .before .if2 .left) _ (c .before .before .before .before .before .power .ensures) (c .before .before .before .before .if3 .left) _ (c .before .before .before .held-bytes .ensures) _ (c .before .zeros .ensures) (c .if4 .taken)
+    let at-zeros = c .before in
+    let at-held-bytes = at-zeros .before .before in
+    let at-if3 = at-held-bytes .before in
+    let at-power = at-if3 .before in
+    let at-if2 = at-power .before .before in
+    let at-if1 = at-if2 .before .before in
+    let at-slot-bytes = at-if1 .before in
+    let start = at-slot-bytes .before .before in
+    free-zero (start .args .card .now) (start .args .head) _ (at-slot-bytes .slot-bytes .ensures) (at-if1 .if1 .left) (at-if2 .if2 .left) _ (at-power .power .ensures) (at-if3 .if3 .left) _ (at-held-bytes .held-bytes .ensures) _ (at-zeros .zeros .ensures) (c .if4 .taken)
 
 returns-5 : tie.Need-returns-5
 returns-5 c =
-    free-used (c .before .before .before .before .before .before .before .before .before .before .before .before .args .card .now) (c .before .before .before .before .before .before .before .before .before .before .before .before .args .head) _ (c .before .before .before .before .before .before .before .before .before .before .slot-bytes .ensures) (c .before .before .before .before .before .before .before .before .before .if1 .left) (c .before .before .before .before .before .before .before .if2 .left) _ (c .before .before .before .before .before .power .ensures) (c .before .before .before .before .if3 .left) _ (c .before .before .before .held-bytes .ensures) _ (c .before .zeros .ensures) (c .if4 .left)
+    let at-zeros = c .before in
+    let at-held-bytes = at-zeros .before .before in
+    let at-if3 = at-held-bytes .before in
+    let at-power = at-if3 .before in
+    let at-if2 = at-power .before .before in
+    let at-if1 = at-if2 .before .before in
+    let at-slot-bytes = at-if1 .before in
+    let start = at-slot-bytes .before .before in
+    free-used (start .args .card .now) (start .args .head) _ (at-slot-bytes .slot-bytes .ensures) (at-if1 .if1 .left) (at-if2 .if2 .left) _ (at-power .power .ensures) (at-if3 .if3 .left) _ (at-held-bytes .held-bytes .ensures) _ (at-zeros .zeros .ensures) (c .if4 .left)
 
 pub inspect-slots-spec : {M : Type 1} → statement M
 inspect-slots-spec =

@@ -1,11 +1,8 @@
 -- `card::layout::laid_out` meets its contract. Assumes nothing.
-use Rattle.card.proofs.ReadLaws.{mark-first, mark-second, zeros-first, zeros-second}
 use borrow.Author.Needs.{needs}
+use Rattle.card.proofs.ReadLaws.{mark-first, mark-second, zeros-first, zeros-second}
 use Rattle.card.proofs.layout.laid_out.Statement.{statement}
 use Rattle.card.proofs.layout.laid_out.Tie as tie
-use Rattle.card.proofs.layout.laid_out.Reads as reads
-use Rattle.card.proofs.layout.laid_out.Lts as lts
-use Rattle.card.proofs.layout.zeros.Reads as zeros-reads
 
 shared-slice-read-if1 : tie.Need-shared-slice-read-if1
 shared-slice-read-if1 c = search needs
@@ -50,10 +47,19 @@ zeros-requires-2 : tie.Need-zeros-requires-2
 zeros-requires-2 c κs = search needs
 
 returns-3 : tie.Need-returns-3
-returns-3 c = zeros-second _ (c .before .before .before .before .before .before .before .if1 .left) (c .before .before .before .before .before .if2 .left) _ (c .before .before .before .zeros .ensures) _ (c .before .before .if3 .taken) (c .zeros2 .ensures)
+returns-3 c =
+    let at-if3 = c .before .before in
+    let at-zeros = at-if3 .before in
+    let at-if2 = at-zeros .before .before in
+    let at-if1 = at-if2 .before .before in
+    zeros-second _ (at-if1 .if1 .left) (at-if2 .if2 .left) _ (at-zeros .zeros .ensures) _ (at-if3 .if3 .taken) (c .zeros2 .ensures)
 
 returns-4 : tie.Need-returns-4
-returns-4 c = zeros-first _ (c .before .before .before .before .before .if1 .left) (c .before .before .before .if2 .left) _ (c .before .zeros .ensures) (c .if3 .left)
+returns-4 c =
+    let at-zeros = c .before in
+    let at-if2 = at-zeros .before .before in
+    let at-if1 = at-if2 .before .before in
+    zeros-first _ (at-if1 .if1 .left) (at-if2 .if2 .left) _ (at-zeros .zeros .ensures) (c .if3 .left)
 
 pub laid-out-spec : {M : Type 1} → statement M
 laid-out-spec =

@@ -1,12 +1,8 @@
 -- `card::layout::put` meets its contract. Assumes nothing.
-use Rattle.card.proofs.ReadLaws.{put-both}
 use borrow.Author.Needs.{needs}
+use Rattle.card.proofs.ReadLaws.{put-both}
 use Rattle.card.proofs.layout.put.Statement.{statement}
 use Rattle.card.proofs.layout.put.Tie as tie
-use Rattle.card.proofs.layout.put.Reads as reads
-use Rattle.card.proofs.layout.put.Lts as lts
-use Rattle.card.proofs.layout.head_bytes.Reads as head-bytes-reads
-use Rattle.slots.proofs.copy.Reads as copy-reads
 
 head-bytes-requires : tie.Need-head-bytes-requires
 head-bytes-requires c κs = search needs
@@ -33,7 +29,12 @@ same-length : tie.Need-same-length
 same-length c = search needs
 
 returns : tie.Need-returns
-returns c = put-both (c .before .before .before .before .before .before .before .before .before .before .before .before .args .head) (c .before .before .before .before .before .before .before .before .before .head-bytes .result) (c .before .before .before .before .before .before .before .before .before .before .before .before .args .filled .now) (c .before .before .before .before .before .before .before .before .before .before .before .before .args .card .now) (c .before .before .before .before .before .before .copy .last .1 .0) (c .before .before .copy2 .last .1 .0) (c .before .before .before .before .before .before .before .before .before .before .before .before .pre .room) (c .before .before .before .before .before .before .before .before .before .head-bytes .ensures) (c .before .before .before .before .before .before .copy .ensures) (c .before .before .copy2 .ensures)
+returns c =
+    let at-copy2 = c .before .before in
+    let at-copy = at-copy2 .before .before .before .before in
+    let at-head-bytes = at-copy .before .before .before in
+    let start = at-head-bytes .before .before .before in
+    put-both (start .args .head) (at-head-bytes .head-bytes .result) (start .args .filled .now) (start .args .card .now) (at-copy .copy .last .1 .0) (at-copy2 .copy2 .last .1 .0) (start .pre .room) (at-head-bytes .head-bytes .ensures) (at-copy .copy .ensures) (at-copy2 .copy2 .ensures)
 
 pub put-spec : {M : Type 1} → statement M
 put-spec =

@@ -1,13 +1,9 @@
 -- `card::layout::read_head` meets its contract. Assumes nothing.
 use mathlib.Core.Path.{refl}
-use Rattle.card.specs.Record.{headOf}
 use borrow.Author.Needs.{needs}
+use Rattle.card.specs.Record.{headOf}
 use Rattle.card.proofs.layout.read_head.Statement.{statement}
 use Rattle.card.proofs.layout.read_head.Tie as tie
-use Rattle.card.proofs.layout.read_head.Reads as reads
-use Rattle.card.proofs.layout.read_head.Lts as lts
-use Rattle.card.proofs.layout.wide.Reads as wide-reads
-use Rattle.card.proofs.layout.word.Reads as word-reads
 
 shared-slice-read-wide : tie.Need-shared-slice-read-wide
 shared-slice-read-wide c = search needs
@@ -41,7 +37,11 @@ word-requires c κs = search needs
 
 returns : tie.Need-returns
 unfolding headOf
-returns c = rw (c .before .before .before .before .before .before .wide .ensures .0, c .before .before .before .before .wide2 .ensures .0, c .before .before .wide3 .ensures .0, c .word .ensures) refl
+returns c =
+    let at-wide3 = c .before .before in
+    let at-wide2 = at-wide3 .before .before in
+    let at-wide = at-wide2 .before .before in
+    rw (at-wide .wide .ensures .0, at-wide2 .wide2 .ensures .0, at-wide3 .wide3 .ensures .0, c .word .ensures) refl
 
 pub read-head-spec : {M : Type 1} → statement M
 read-head-spec =

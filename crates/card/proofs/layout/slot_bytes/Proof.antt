@@ -1,13 +1,9 @@
 -- `card::layout::slot_bytes` meets its contract. Assumes nothing.
-use Rattle.card.proofs.ReadLaws.{slots-bytes, slots-fit}
 use native.Mathlib.Omega.{arith}
 use borrow.Author.Needs.{needs}
+use Rattle.card.proofs.ReadLaws.{slots-bytes, slots-fit}
 use Rattle.card.proofs.layout.slot_bytes.Statement.{statement}
 use Rattle.card.proofs.layout.slot_bytes.Tie as tie
-use Rattle.card.proofs.layout.slot_bytes.Reads as reads
-use Rattle.card.proofs.layout.slot_bytes.Lts as lts
-use Rattle.card.proofs.layout.slot_count.Reads as slot-count-reads
-use Rattle.oneway.proofs.width.Reads as width-reads
 
 width-requires : tie.Need-width-requires
 width-requires c κs = search needs
@@ -22,7 +18,9 @@ mul-result : tie.Need-mul-result
 mul-result c = omega (arith, slots-fit (c .before .before .args .head) _ (c .before .width .ensures) _ (c .slot-count .ensures))
 
 returns : tie.Need-returns
-returns c = (slots-bytes (c .before .before .args .head) _ (c .before .width .ensures) _ (c .slot-count .ensures), slots-fit (c .before .before .args .head) _ (c .before .width .ensures) _ (c .slot-count .ensures))
+returns c =
+    let s = c .before .before in
+    (slots-bytes (s .args .head) _ (c .before .width .ensures) _ (c .slot-count .ensures), slots-fit (s .args .head) _ (c .before .width .ensures) _ (c .slot-count .ensures))
 
 pub slot-bytes-spec : {M : Type 1} → statement M
 slot-bytes-spec =

@@ -1,12 +1,10 @@
 -- `card::layout::slot_count` meets its contract. Assumes nothing.
-use Rattle.card.proofs.ReadLaws.{slots-many, slots-few, slots-other}
 use mathlib.Core.Logic.{⊎-elim}
 use native.Mathlib.Omega.{arith}
 use borrow.Author.Needs.{needs}
+use Rattle.card.proofs.ReadLaws.{slots-many, slots-few, slots-other}
 use Rattle.card.proofs.layout.slot_count.Statement.{statement}
 use Rattle.card.proofs.layout.slot_count.Tie as tie
-use Rattle.card.proofs.layout.slot_count.Reads as reads
-use Rattle.card.proofs.layout.slot_count.Lts as lts
 
 mul-result : tie.Need-mul-result
 mul-result c = search needs

@@ -1,12 +1,9 @@
 -- `card::layout::word` meets its contract. Assumes nothing.
-use Rattle.card.proofs.ReadLaws.{word-number}
 use native.Mathlib.Omega.{arith}
 use borrow.Author.Needs.{needs}
+use Rattle.card.proofs.ReadLaws.{word-number}
 use Rattle.card.proofs.layout.word.Statement.{statement}
 use Rattle.card.proofs.layout.word.Tie as tie
-use Rattle.card.proofs.layout.word.Reads as reads
-use Rattle.card.proofs.layout.word.Lts as lts
-use Rattle.card.proofs.layout.wide.Reads as wide-reads
 
 shared-slice-read-wide : tie.Need-shared-slice-read-wide
 shared-slice-read-wide c = search needs
@@ -51,7 +48,9 @@ add-result-2 : tie.Need-add-result-2
 add-result-2 c = search needs
 
 returns : tie.Need-returns
-returns c = omega (arith, word-number (c .before .before .before .before .before .before .before .before .before .args .bytes .now) (c .before .before .before .before .before .before .before .before .before .pre))
+returns c =
+    let start = c .before .before .before .before .before .before .before .before .before in
+    omega (arith, word-number (start .args .bytes .now) (start .pre))
 
 pub word-spec : {M : Type 1} → statement M
 word-spec =

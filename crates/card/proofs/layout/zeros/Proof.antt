@@ -1,15 +1,13 @@
 -- `card::layout::zeros` meets its contract. The loop's invariant: all bytes are zero just where what was seen so far is, and the rest are.
 -- Assumes nothing.
-use Rattle.card.proofs.ReadLaws.{Looking, looking-next, looked}
-use lib.ListN.{length}
-use Prim.Native.Nat.{_-_}
 use mathlib.Core.Path.{refl}
+use Prim.Native.Nat.{_-_}
 use native.Mathlib.Omega.{arith}
 use borrow.Author.Needs.{needs}
+use lib.ListN.{length}
+use Rattle.card.proofs.ReadLaws.{Looking, looking-next, looked}
 use Rattle.card.proofs.layout.zeros.Statement.{statement}
 use Rattle.card.proofs.layout.zeros.Tie as tie
-use Rattle.card.proofs.layout.zeros.Reads as reads
-use Rattle.card.proofs.layout.zeros.Lts as lts
 
 abbrev Inv-loop : tie.InvT-loop
 Inv-loop bytes seen₀ i₀ seen i = Looking bytes seen i

@@ -1,0 +1,146 @@
+-- What the code that goes along a chain comes to, over plain lists and numbers. Assumes nothing.
+use mathlib.Core.Path.{_≡_, refl, sym, ap, _∙_}
+use mathlib.Core.Bool.{Bool, true, false, cond, _&&_}
+use mathlib.Core.List.{List, [], _∷_}
+use Prim.Native.Nat.{ℕ, zero, suc, _+_, _≤_, _<_}
+use native.Mathlib.Numerals.{add-one}
+use native.Mathlib.Omega.{arith}
+use borrow.Author.Tests.{eq-eqb, ne-eqb}
+use lib.Dec.{eqb}
+use lib.ListN.{length, drop, getD, drop-of-length-le}
+use lib.Seq.{drop-cons}
+use Rattle.oneway.specs.Laws.{step-length}
+use Rattle.oneway.specs.Step.{width, step}
+use Rattle.oneway.specs.declared.Chain.{Chain}
+use Rattle.pebbling.specs.Recursion.{chain}
+use Rattle.post.specs.declared.Found.{Found}
+use Rattle.post.specs.declared.Found.the-variants.{At, Nothing}
+use Rattle.post.specs.Search.{same, orElse, least, fewest}
+use Rattle.post.specs.Fewest.{least-found, least-kept}
+use Rattle.post.specs.Kept.{chain-add}
+
+-- ---- same: what is left to compare decides
+
+pub record Comparing (a b : List ℕ) (i : ℕ) : Type 0 where
+  pub within : i ≤ length a
+  pub sized : length a ≡ length b
+  pub rest : same (drop i a) (drop i b) ≡ same a b
+
+and-none : (x : Bool) → false ≡ (x && false)
+and-none true = refl
+and-none false = refl
+
+pub same-lengths : (a b : List ℕ) → (length a ≡ length b → ⊥) → false ≡ same a b
+unfolding same
+same-lengths [] [] n = absurd (n refl)
+same-lengths [] (y ∷ b) n = refl
+same-lengths (x ∷ a) [] n = refl
+same-lengths (x ∷ a) (y ∷ b) n =
+    and-none (eqb x y) ∙ ap (λ (r : Bool). eqb x y && r) (same-lengths a b (λ e. n (ap suc e)))
+
+module _ (a b : List ℕ) (i : ℕ) (l : Comparing a b i) where
+  module _ (h : i < length a) where
+    next-two : eqb (getD a i 0) (getD b i 0) && same (drop (suc i) a) (drop (suc i) b) ≡ same a b
+    unfolding same
+    next-two = let k : i < length b = omega (arith, l .sized) in sym (rw (drop-cons a i 0 h, drop-cons b i 0 k) refl) ∙ l .rest
+
+    pub comparing-next : getD a i 0 ≡ getD b i 0 → Comparing a b (i + 1)
+    comparing-next e =
+        record { within = omega arith; sized = l .sized; rest = rw (add-one i) (rw (eq-eqb (getD a i 0) (getD b i 0) e) at next-two) }
+
+    pub comparing-stops : (getD a i 0 ≡ getD b i 0 → ⊥) → false ≡ same a b
+    comparing-stops n = rw (ne-eqb (getD a i 0) (getD b i 0) n) at next-two
+
+  pub compared : length a ≤ i → true ≡ same a b
+  unfolding same
+  compared h =
+      let k : length b ≤ i = omega (arith, l .sized) in
+      sym (rw (drop-of-length-le a h, drop-of-length-le b k) refl) ∙ l .rest
+
+-- ---- walk: after i steps, the chain's element i
+
+pub record Walking (c : Chain) (seed value : List ℕ) (i : ℕ) : Type 0 where
+  pub wide : length seed ≡ width c
+  pub sized : length value ≡ length seed
+  pub holds : value ≡ chain (step c) seed i
+
+pub walking-none : (c : Chain) (seed : List ℕ) → length seed ≡ width c → Walking c seed seed 0
+unfolding chain
+walking-none c seed e = record { wide = e; sized = refl; holds = refl }
+
+pub walking-next : (c : Chain) (seed value value′ : List ℕ) (i : ℕ) → Walking c seed value i → value′ ≡ step c value → Walking c seed value′ (i + 1)
+unfolding chain
+walking-next c seed value value′ i w e =
+    record {
+      wide = w .wide;
+      sized = ap length e ∙ step-length c value (w .sized ∙ w .wide) ∙ sym (w .wide);
+      holds = rw (add-one i) (e ∙ ap (step c) (w .holds));
+    }
+
+pub walked : (c : Chain) (seed value : List ℕ) (i n : ℕ) → Walking c seed value i → i ≤ n → n ≤ i → value ≡ chain (step c) seed n
+walked c seed value i n w a b = let e : i ≡ n = omega arith in w .holds ∙ rw e refl
+
+-- ---- search: the least of those looked at is found, and finding one ends the search
+
+abbrev pub fits : Chain → List ℕ → List ℕ → ℕ → Bool
+fits c held value g = same (chain (step c) value g) held
+
+-- where the search ends
+abbrev pub stop : ℕ → Found → ℕ
+stop limit (At g) = g
+stop limit Nothing = limit
+
+pub record Searching (c : Chain) (limit : ℕ) (held value : List ℕ) (found : Found) (end g : ℕ) (stepped : List ℕ) : Type 0 where
+  pub walks : Walking c value stepped g
+  pub finds : found ≡ least g (fits c held value)
+  pub ends : end ≡ stop limit found
+  pub within : g ≤ end
+  pub upto : end ≤ limit
+
+module _ (c : Chain) (limit : ℕ) (held value : List ℕ) where
+  pub searching-none : length value ≡ width c → Searching c limit held value Nothing limit 0 value
+  unfolding least
+  searching-none e = record { walks = walking-none c value e; finds = refl; ends = refl; within = omega arith; upto = omega arith }
+
+  module _ (found : Found) (end g : ℕ) (stepped : List ℕ) (s : Searching c limit held value found end g stepped) where
+    -- while the search goes on, nothing has been found
+    open-still : g < end → (found ≡ Nothing) × (end ≡ limit)
+    open-still l = go found (s .finds) (s .ends)
+      where
+        go : (x : Found) → x ≡ least g (fits c held value) → end ≡ stop limit x → (x ≡ Nothing) × (end ≡ limit)
+        go Nothing f e = (refl, e)
+        go (At h) f e = absurd (omega (arith, least-found (fits c held value) g h (sym f) .upto, e))
+
+    -- one step more
+    module _ (l : g < end) (stepped′ : List ℕ) (one : stepped′ ≡ chain (step c) stepped 1) where
+      pub step-walks : Walking c value stepped′ (g + 1)
+      unfolding chain
+      step-walks = walking-next c value stepped stepped′ g (s .walks) one
+
+      more : least (g + 1) (fits c held value) ≡ cond (same stepped′ held) (At (g + 1)) Nothing
+      unfolding least
+      more =
+          rw (add-one g, sym (s .finds) ∙ open-still l .0)
+          (rw (← add-one g, ← step-walks .holds) refl)
+
+      pub search-fits : same stepped′ held ≡ true → Searching c limit held value (At (g + 1)) (g + 1) (g + 1) stepped′
+      search-fits t =
+          record { walks = step-walks; finds = sym (more ∙ rw t refl); ends = refl; within = omega arith; upto = omega (arith, open-still l .1) }
+
+      pub search-on : same stepped′ held ≡ false → Searching c limit held value found end (g + 1) stepped′
+      search-on f =
+          record {
+            walks = step-walks;
+            finds = open-still l .0 ∙ sym (more ∙ rw f refl);
+            ends = s .ends;
+            within = omega arith;
+            upto = s .upto;
+          }
+
+    pub searched : end ≤ g → found ≡ fewest (step c) limit held value
+    unfolding fewest
+    searched l = go found (s .finds) (s .ends)
+      where
+        go : (x : Found) → x ≡ least g (fits c held value) → end ≡ stop limit x → x ≡ least limit (fits c held value)
+        go Nothing f e = let q : g ≡ limit = omega (arith, s .within, e) in rw (← q) f
+        go (At h) f e = sym (least-kept (fits c held value) g limit h (omega (arith, s .within, s .upto)) (sym f))

@@ -1,0 +1,20 @@
+-- `post::room_for` meets its contract. Assumes nothing.
+use borrow.Author.Needs.{needs}
+use Rattle.post.proofs.CallLaws.{anchor-strange, post-short, post-long}
+use Rattle.post.proofs.room_for.Statement.{statement}
+use Rattle.post.proofs.room_for.Tie as tie
+
+width-requires : tie.Need-width-requires
+width-requires c κs = search needs
+
+returns : tie.Need-returns
+returns c = anchor-strange (c .before .before .before .before .args .anchor .now) (c .before .before .before .before .args .post .now) (c .before .before .before .before .args .head) _ (c .before .width .ensures) (c .if1 .taken)
+
+returns-2 : tie.Need-returns-2
+returns-2 c = post-short (c .before .before .before .before .before .args .anchor .now) (c .before .before .before .before .before .args .post .now) (c .before .before .before .before .before .args .head) _ (c .before .before .width .ensures) (c .before .if1 .left) (c .if2 .taken)
+
+returns-3 : tie.Need-returns-3
+returns-3 c = post-long (c .before .before .before .before .before .args .anchor .now) (c .before .before .before .before .before .args .post .now) (c .before .before .before .before .before .args .head) _ (c .before .before .width .ensures) (c .before .if1 .left) (c .if2 .left)
+
+pub room-for-spec : {M : Type 1} → statement M
+room-for-spec = tie.close (tie.spec width-requires returns returns-2 returns-3)

@@ -1,0 +1,116 @@
+-- A record that was written is read back: the head, the anchor and the value held. And steps add up. Assumes nothing.
+use mathlib.Core.Path.{_≡_, refl, sym, ap, _∙_}
+use mathlib.Core.Bool.{true, false, not, _&&_}
+use mathlib.Core.List.{List, [], _∷_, _++_, append-assoc}
+use Prim.Native.Nat.{ℕ, zero, suc, _+_, _*_, _/_, _%_, _^_, _≤_, _<_}
+use native.Mathlib.Nat.{pow-succ', eq-zero-or-pos}
+use native.Mathlib.Omega.{arith}
+use mathlib.Core.Logic.{⊎-elim}
+use borrow.Author.Tests.{le-ltb, lt-ltb, eq-eqb, ne-eqb}
+use lib.Dec.{eqb, ltb}
+use lib.ListN.{length, take, drop, length-append}
+use lib.Pow.{pow-mono}
+use lib.Seq.{take-at, drop-at, drop-drop}
+use Rattle.lists.specs.Writing.{over, over-length}
+use Rattle.oneway.specs.Laws.{width-small, step-length}
+use Rattle.oneway.specs.Step.{known, width, step, littleEndian}
+use Rattle.oneway.specs.declared.Chain.{Chain}
+use Rattle.pebbling.specs.Recursion.{chain}
+use Rattle.post.specs.declared.Head.{Head}
+use Rattle.post.specs.declared.Inspected.{Inspected}
+use Rattle.post.specs.declared.Inspected.the-variants.{Refused, Post}
+use Rattle.post.specs.Record.{size, chainOf, widthOf, headBytes, postBytes, marked, number, headOf, anchorOf, heldOf}
+use Rattle.post.specs.Refused.{passing, numbers, inspectPaid, inspectOf}
+use Rattle.post.specs.Sound.{Numbered}
+use Rattle.post.specs.Search.{same}
+use Rattle.post.specs.Fewest.{same-refl}
+
+-- ---- steps
+
+-- m steps and n more
+pub chain-add : (f : List ℕ → List ℕ) (x : List ℕ) (m n : ℕ) → chain f x (m + n) ≡ chain f (chain f x m) n
+unfolding chain
+chain-add f x m zero = let e : m + 0 ≡ m = omega arith in rw e refl
+chain-add f x m (suc n) = let e : m + suc n ≡ suc (m + n) = omega arith in rw e (ap f (chain-add f x m n))
+
+-- each element of a chain has the chain's width
+pub chain-length : (c : Chain) (seed : List ℕ) → length seed ≡ width c → (n : ℕ) → length (chain (step c) seed n) ≡ width c
+unfolding chain
+chain-length c seed e zero = e
+chain-length c seed e (suc n) = step-length c (chain (step c) seed n) (chain-length c seed e n)
+
+-- ---- numbers
+
+pub number-read : (n x : ℕ) → x < 256 ^ n → number (littleEndian n x) ≡ x
+unfolding number
+number-read zero x h = omega arith
+number-read (suc n) x h =
+    let p : 256 ^ suc n ≡ 256 * 256 ^ n = pow-succ' 256 n in
+    let q : x / 256 < 256 ^ n = omega (arith, p) in
+    rw (number-read n (x / 256) q) (omega arith)
+
+-- what is paid fits its four bytes
+pub paid-fits : (k paid : ℕ) → k ≤ 20 → paid ≤ 2 ^ k → paid < 256 ^ 4
+paid-fits k paid s h = let p : 2 ^ k ≤ 2 ^ 20 = pow-mono s in omega (arith, p)
+
+-- ---- a written record
+
+-- a head, and an anchor and a value of its width, in a record with room for them
+pub record Writable (head : Head) (anchor held post : List ℕ) : Type 0 where
+  pub small : head .paid < 256 ^ 4
+  pub anchored : length anchor ≡ widthOf head
+  pub wide : length held ≡ widthOf head
+  pub long : size ≤ length post
+
+module _ (head : Head) (anchor held post : List ℕ) (w : Writable head anchor held post) where
+  abbrev pub written : List ℕ
+  written = over (postBytes head anchor held) post
+
+  pub written-length : length written ≡ length post
+  unfolding postBytes headBytes
+  written-length =
+      over-length (postBytes head anchor held) post
+      (omega (arith, length-append anchor held, w .anchored, w .wide, w .long, width-small (chainOf head)))
+
+  pub written-marked : marked written ≡ true
+  unfolding postBytes headBytes marked
+  written-marked = refl
+
+  pub written-head : headOf written ≡ head
+  unfolding postBytes headBytes headOf
+  written-head = rw (number-read 4 (head .paid) (w .small)) refl
+
+  behind-head : drop 8 written ≡ anchor ++ (held ++ drop (length (postBytes head anchor held)) post)
+  unfolding postBytes headBytes
+  behind-head = append-assoc anchor held (drop (length (postBytes head anchor held)) post)
+
+  pub written-anchor : anchorOf head written ≡ anchor
+  unfolding anchorOf
+  written-anchor = rw behind-head (take-at anchor (held ++ drop (length (postBytes head anchor held)) post) (widthOf head) (w .anchored))
+
+  pub written-held : heldOf head written ≡ held
+  unfolding heldOf
+  written-held =
+      let rest = drop (length (postBytes head anchor held)) post in
+      rw (← drop-drop (widthOf head) 8 written, behind-head, drop-at anchor (held ++ rest) (widthOf head) (w .anchored))
+      (take-at held rest (widthOf head) (w .wide))
+
+  -- it passes inspection
+  module _ (n : Numbered head) (within : head .paid ≤ 2 ^ head .k) (begins : head .paid ≡ 0 → held ≡ anchor) where
+    numbers-pass : numbers head ≡ Post head
+    unfolding numbers
+    numbers-pass = rw (n .known, le-ltb 20 (head .k) (n .small)) refl
+
+    paid-pass : inspectPaid written head ≡ Post head
+    unfolding inspectPaid
+    paid-pass =
+        rw (le-ltb (2 ^ head .k) (head .paid) within, written-held, written-anchor)
+        (⊎-elim
+        (λ z. let e : same held anchor ≡ true = rw (begins z) (same-refl anchor) in rw (eq-eqb (head .paid) 0 z, e) refl)
+        (λ z. rw (ne-eqb (head .paid) 0 (λ e. omega arith)) refl)
+        (eq-zero-or-pos (head .paid)))
+
+    pub written-passes : inspectOf written ≡ Post head
+    unfolding inspectOf
+    written-passes =
+        rw (le-ltb (length written) size (omega (arith, written-length, w .long)), written-marked, written-head, numbers-pass) paid-pass

@@ -1,0 +1,11 @@
+pub mod Search
+pub mod Record
+pub mod Refused
+pub mod Promises
+pub mod Examples
+pub mod Fewest
+pub mod Sound
+pub mod Kept
+pub mod Steps
+pub mod Demands
+pub mod Ride
