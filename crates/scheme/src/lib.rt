@@ -1,0 +1,1 @@
+// Card and post together: theorems about the two, and no code.
