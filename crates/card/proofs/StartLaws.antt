@@ -169,7 +169,7 @@ walked c seed value i n w a b = let e : i ≡ n = omega arith in w .holds ∙ rw
 module _ (c : Chain) (k : ℕ) (seed out : List ℕ) where
   pub anchor-refused : (refusal : Refusal) → anchorJudged c k seed out ≡ NotDone refusal → Anchored c k seed out (NotDone refusal) out
   unfolding anchorSaid anchorOut
-  anchor-refused refusal e = record { says = rw e refl; leaves = rw e refl }
+  anchor-refused refusal e = record { says = rw e refl; writes = rw e refl }
 
   module _ (x : Bool) (e : x ≡ known (c .function)) where
     pub anchor-1 : x ≡ false → anchorJudged c k seed out ≡ NotDone UnknownFunction
@@ -206,4 +206,4 @@ module _ (c : Chain) (k : ℕ) (seed out : List ℕ) where
                   let v : y ≡ chain (step c) seed (2 ^ k) = h ∙ rw (anchor-front, q .is) refl in
                   let d : drop w mid ≡ drop w out = ap (drop w) copied ∙ drop-at seed (drop (length seed) out) w l ∙ rw l refl in
                   let n : length (chain (step c) seed (2 ^ k)) ≡ w = chain-length c seed (l ∙ wide) (2 ^ k) ∙ sym wide in
-                  record { says = rw all refl; leaves = rw (all, v, d, n) refl }
+                  record { says = rw all refl; writes = rw (all, v, d, n) refl }

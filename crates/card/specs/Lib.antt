@@ -4,4 +4,5 @@ pub mod Promises
 pub mod Sound
 pub mod Steps
 pub mod Kept
+pub mod Run
 pub mod Demands

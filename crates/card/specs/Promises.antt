@@ -122,7 +122,7 @@ anchorOut c k seed out = anchorOutBy c k seed out (anchorJudged c k seed out)
 
 pub record Anchored (c : Chain) (k : ℕ) (seed out : List ℕ) (answer : Answer) (out′ : List ℕ) : Type 0 where
   pub says : said answer ≡ anchorSaid c k seed out
-  pub leaves : out′ ≡ anchorOut c k seed out
+  pub writes : out′ ≡ anchorOut c k seed out
 
 -- ---- what is said tells the answer, so each promise is kept by one answer and one content of each lent buffer
 
@@ -171,4 +171,4 @@ round-leaves-no-choice card out a b card₁ card₂ out₁ out₂ p q =
 pub anchor-leaves-no-choice : (c : Chain) (k : ℕ) (seed out : List ℕ) (a b : Answer) (out₁ out₂ : List ℕ)
     → Anchored c k seed out a out₁ → Anchored c k seed out b out₂ → (a ≡ b) × (out₁ ≡ out₂)
 anchor-leaves-no-choice c k seed out a b out₁ out₂ p q =
-    (answer-told a b (p .says ∙ sym (q .says)), p .leaves ∙ sym (q .leaves))
+    (answer-told a b (p .says ∙ sym (q .says)), p .writes ∙ sym (q .writes))

@@ -1,0 +1,129 @@
+-- A card that is started and run: what start and the rounds after it leave, by the right sides of their promises, and what each round reads
+-- from it. Assumes nothing.
+use mathlib.Core.Path.{_≡_, refl, sym, ap, _∙_}
+use mathlib.Core.Bool.{true}
+use mathlib.Core.List.{List, map}
+use Prim.Native.Nat.{ℕ, zero, suc, _-_, _^_, _≤_, _<_}
+use native.Mathlib.Omega.{arith}
+use borrow.Author.Tests.{eq-eqb, le-ltb}
+use lib.ListN.{length}
+use Rattle.lists.specs.Values.{joined}
+use Rattle.lists.specs.Writing.{over}
+use Rattle.oneway.specs.Step.{known, width, step}
+use Rattle.oneway.specs.declared.Chain.{Chain}
+use Rattle.pebbling.specs.Demands.{round-moves-the-chain, card-holds-the-chain}
+use Rattle.pebbling.specs.Recursion.{schedule, positions, tick, round, before, chain}
+use Rattle.card.specs.declared.Head.{Head}
+use Rattle.card.specs.declared.Inspected.the-variants.{Card}
+use Rattle.card.specs.Record.{slotBytes, size, cardBytes, heldValues}
+use Rattle.card.specs.Refused.{numbers, roomFor, startJudged, inspectOf, roundJudged}
+use Rattle.card.specs.Promises.{startCard, roundCard, roundOut}
+use Rattle.card.specs.Sound.{Numbered, ready-passes}
+use Rattle.card.specs.Kept.{over-over, Holding, chain-holding, card-length, inspected, values-back}
+
+-- ---- definitions
+
+-- a card of a function, a schedule and k, before its round r
+abbrev pub headAt : ℕ → ℕ → ℕ → ℕ → Head
+headAt function k s r = record { function = function; schedule = s; k = k; round = record { 0 = r } }
+
+-- a known function, a k and a schedule within their bounds, a seed of the function's width, and a lent record that is long enough
+pub record Given (function k s : ℕ) (seed lent : List ℕ) : Type 0 where
+  pub known : known function ≡ true
+  pub small : k ≤ 20
+  pub scheduled : s ≤ 3
+  pub seeded : length seed ≡ width (record { function = function })
+  pub long : size (headAt function k s 1) ≤ length lent
+
+-- the record that start leaves and n rounds after it; round i + 1 is lent the out buffer `outs i`
+unfoldable pub after : (function k s : ℕ) (seed lent : List ℕ) (outs : ℕ → List ℕ) → ℕ → List ℕ
+after function k s seed lent outs zero = startCard function k s seed lent
+after function k s seed lent outs (suc n) = roundCard (after function k s seed lent outs n) (outs n)
+
+-- the record before round r as it is to be: the chain's elements at the positions held, from slot 0 on, over what was lent
+abbrev pub heldAt : (function k s : ℕ) (seed lent : List ℕ) → ℕ → List ℕ
+heldAt function k s seed lent r =
+    over (cardBytes (headAt function k s r) (map (chain (step (record { function = function })) seed) (positions (schedule s) k r 0))) lent
+
+-- ---- laws
+
+module _ (function k s : ℕ) (seed lent : List ℕ) (given : Given function k s seed lent) where
+  abbrev c : Chain
+  c = record { function = function }
+
+  abbrev head : ℕ → Head
+  head = headAt function k s
+
+  abbrev vs : ℕ → List (List ℕ)
+  vs r = map (chain (step c) seed) (positions (schedule s) k r 0)
+
+  abbrev kept : ℕ → List ℕ
+  kept = heldAt function k s seed lent
+
+  numbered : (r : ℕ) → Numbered (head r)
+  numbered r = record { known = given .known; small = given .small; schedule = given .scheduled }
+
+  holding : (r : ℕ) → Holding (head r) (vs r)
+  holding r = chain-holding (head r) seed (given .seeded)
+
+  long : (r : ℕ) → size (head r) ≤ length lent
+  unfolding size slotBytes
+  long r = given .long
+
+  -- start refuses nothing
+  pub start-passes : startJudged (headAt function k s 1) seed lent ≡ Card (headAt function k s 1)
+  unfolding startJudged numbers roomFor
+  start-passes =
+      rw (
+        given .known,
+        le-ltb 20 k (given .small),
+        le-ltb 3 s (given .scheduled),
+        eq-eqb (length seed) (width c) (given .seeded),
+        le-ltb (length lent) (size (headAt function k s 1)) (given .long),
+      ) refl
+
+  -- what a round reads from such a record: the head and the values
+  pub head-read : (r : ℕ) → 0 < r → r ≤ 2 ^ suc k → inspectOf (heldAt function k s seed lent r) ≡ Card (headAt function k s r)
+  head-read r from upto = inspected (head r) (vs r) (numbered r) from upto (holding r) lent (long r)
+
+  pub values-read : (r : ℕ) → 0 < r → r ≤ 2 ^ suc k
+      → heldValues (headAt function k s r) (heldAt function k s seed lent r) ≡ map (chain (step c) seed) (positions (schedule s) k r 0)
+  values-read r from upto = values-back (head r) (vs r) (numbered r) from upto (holding r) lent (long r)
+
+  -- it refuses nothing
+  pub round-passes : (r : ℕ) (out : List ℕ) → 0 < r → r < 2 ^ suc k → width c ≤ length out
+      → roundJudged (heldAt function k s seed lent r) out ≡ Card (headAt function k s r)
+  unfolding roundJudged
+  round-passes r out from less w = rw (head-read r from (omega arith)) (ready-passes (head r) out (numbered r) less w)
+
+  -- and leaves the record for the next round
+  round-leaves : (r : ℕ) (out : List ℕ) → 0 < r → r < 2 ^ suc k → width c ≤ length out → roundCard (kept r) out ≡ kept (suc r)
+  unfolding roundCard size slotBytes
+  round-leaves r out from less w =
+      rw (round-passes r out from less w, values-read r from (omega arith), round-moves-the-chain s (given .scheduled) k (step c) seed r from less)
+      (over-over (cardBytes (head (suc r)) (vs (suc r))) (cardBytes (head r) (vs r)) lent
+      (card-length (head (suc r)) (vs (suc r)) (numbered (suc r)) (omega arith) less (holding (suc r))
+      ∙ sym (card-length (head r) (vs r) (numbered r) from (omega arith) (holding r))))
+
+  module _ (outs : ℕ → List ℕ) (wide : (n : ℕ) → width c ≤ length (outs n)) where
+    pub after-holds : (n : ℕ) → suc n ≤ 2 ^ suc k → after function k s seed lent outs n ≡ heldAt function k s seed lent (suc n)
+    unfolding after before startCard
+    after-holds zero h =
+        rw start-passes
+        (ap (λ (ys : List (List ℕ)). over (cardBytes (head 1) ys) lent)
+        (card-holds-the-chain s (given .scheduled) k (step c) seed 1 (omega arith) h))
+    after-holds (suc n) h =
+        ap (λ (b : List ℕ). roundCard b (outs n)) (after-holds n (omega arith))
+        ∙ round-leaves (suc n) (outs n) (omega arith) (omega arith) (wide n)
+
+    -- what the next round puts out
+    pub after-puts-out : (n : ℕ) → suc n < 2 ^ suc k
+        → roundOut (after function k s seed lent outs n) (outs n) ≡ over (joined (tick (schedule s) k (suc n) (before (schedule s) (step c) k seed (suc n)))) (outs n)
+    unfolding roundOut
+    after-puts-out n h =
+        rw (
+          after-holds n (omega arith),
+          round-passes (suc n) (outs n) (omega arith) h (wide n),
+          values-read (suc n) (omega arith) (omega arith),
+          ← card-holds-the-chain s (given .scheduled) k (step c) seed (suc n) (omega arith) (omega arith),
+        ) refl
