@@ -2,7 +2,7 @@
 -- source. Assumes nothing.
 use mathlib.Core.Path.{_≡_, refl, sym, ap, _∙_}
 use mathlib.Core.Bool.{Bool, true, false, cond, _&&_, and-assoc, and-true}
-use mathlib.Core.List.{List, [], _∷_, _++_, append-assoc}
+use mathlib.Core.List.{List, _++_, append-assoc}
 use Prim.Native.Nat.{ℕ, zero, suc, _+_, _-_, _*_, _^_, _≤_, _<_, max}
 use native.Mathlib.Nat.{mul-le-mul, mul-le-mul-left}
 use native.Mathlib.Numerals.{add-one}
@@ -25,7 +25,7 @@ use Rattle.refusals.specs.declared.Refusal.the-variants.{UnknownFunction, TooMa
 use Rattle.card.specs.declared.Head.{Head}
 use Rattle.card.specs.declared.Inspected.{Inspected}
 use Rattle.card.specs.declared.Inspected.the-variants.{Refused, Card}
-use Rattle.card.specs.Record.{widthOf, held, heldBytes, slotBytes, size, headBytes, number, headOf, freeSlots, allZero, laidOut}
+use Rattle.card.specs.Record.{widthOf, held, heldBytes, slotBytes, size, headBytes, headOf, freeSlots, allZero, laidOut}
 use Rattle.card.specs.Refused.{passing, numbers, inspectSlots, inspectOf}
 
 -- ---- zeros: what was seen is zero just where all bytes so far are
@@ -73,17 +73,6 @@ module _ (card : List ℕ) where
       pub zeros-second : (y : Bool) → x ≡ true → y ≡ allZero (take 4 (drop 12 card)) → y ≡ laidOut card
       unfolding laidOut
       zeros-second y f g = rw (eq-eqb (getD card 0 0) 0xB7 a, eq-eqb (getD card 1 0) 0x01 b, ← e, f) g
-
--- ---- word
-
-pub word-number : (bytes : List ℕ) → length bytes ≡ 4 → getD bytes 0 0 + 256 * (getD bytes 1 0 + 256 * (getD bytes 2 0 + 256 * getD bytes 3 0)) ≡ number bytes
-unfolding number
-word-number [] e = absurd (omega arith)
-word-number (a ∷ []) e = absurd (omega arith)
-word-number (a ∷ b ∷ []) e = absurd (omega arith)
-word-number (a ∷ b ∷ c ∷ []) e = absurd (omega arith)
-word-number (a ∷ b ∷ c ∷ d ∷ []) e = omega arith
-word-number (a ∷ b ∷ c ∷ d ∷ x ∷ l) e = absurd (omega arith)
 
 -- ---- slot_count and slot_bytes
 

@@ -4,15 +4,15 @@ use mathlib.Core.Path.{_≡_, refl, sym, ap, _∙_}
 use mathlib.Core.Bool.{Bool, true, false, true≢false}
 use mathlib.Core.List.{List, [], _∷_, _++_, append-nil}
 use Prim.Native.Nat.{ℕ, _+_, _-_, _^_, _≤_, _<_}
-use native.Mathlib.Numerals.{add-one}
 use native.Mathlib.Omega.{arith}
-use borrow.Author.Tests.{lt-ltb, le-ltb, eq-eqb, ne-eqb, ltb-true}
+use borrow.Author.Tests.{lt-ltb, le-ltb, eq-eqb, ne-eqb}
 use lib.Dec.{T}
 use lib.ListN.{length, take, drop, replicate, length-replicate, replicate-append-replicate}
 use lib.Seq.{take-add, take-at, drop-at, length-take-le}
+use Rattle.records.specs.Chains.{chain-length}
 use Rattle.lists.specs.Values.{joined}
 use Rattle.lists.specs.Writing.{over, over-length}
-use Rattle.oneway.specs.Laws.{step-length}
+use Rattle.oneway.specs.Laws.{known-byte}
 use Rattle.oneway.specs.Step.{known, width, step}
 use Rattle.oneway.specs.declared.Chain.{Chain}
 use Rattle.pebbling.specs.Promises.{Power}
@@ -28,15 +28,9 @@ use Rattle.card.specs.Refused.{passing, numbers, roomFor, startJudged, a
 use Rattle.card.specs.Promises.{first, startSaid, startCard, Started, anchorSaid, anchorOut, Anchored}
 use Rattle.card.specs.Sound.{Startable}
 use Rattle.card.specs.Steps.{Puttable}
-use Rattle.card.specs.Kept.{chain-length}
 use Rattle.card.proofs.ReadLaws.{first-slot}
 
 -- ---- slots that were made as zeros
-
--- a known function's number fits a byte
-pub known-byte : (function : ℕ) → known function ≡ true → function ≤ 255
-unfolding known
-known-byte function e = omega (arith, ltb-true function 2 e)
 
 pub known-holds : (b : Bool) → b ≡ true → T b
 known-holds true e = tt
@@ -140,29 +134,6 @@ module _ (function k schedule : ℕ) (seed card : List ℕ) where
       → Started function k schedule seed card Done card′
   unfolding startSaid startCard
   started-done h card′ e l = record { says = rw e refl; leaves = rw e l }
-
--- ---- walk: after i steps, the chain's element i
-
-pub record Walking (c : Chain) (seed value : List ℕ) (i : ℕ) : Type 0 where
-  pub wide : length seed ≡ width c
-  pub sized : length value ≡ length seed
-  pub holds : value ≡ chain (step c) seed i
-
-pub walking-none : (c : Chain) (seed : List ℕ) → length seed ≡ width c → Walking c seed seed 0
-unfolding chain
-walking-none c seed e = record { wide = e; sized = refl; holds = refl }
-
-pub walking-next : (c : Chain) (seed value value′ : List ℕ) (i : ℕ) → Walking c seed value i → value′ ≡ step c value → Walking c seed value′ (i + 1)
-unfolding chain
-walking-next c seed value value′ i w e =
-    record {
-      wide = w .wide;
-      sized = ap length e ∙ step-length c value (w .sized ∙ w .wide) ∙ sym (w .wide);
-      holds = rw (add-one i) (e ∙ ap (step c) (w .holds));
-    }
-
-pub walked : (c : Chain) (seed value : List ℕ) (i n : ℕ) → Walking c seed value i → i ≤ n → n ≤ i → value ≡ chain (step c) seed n
-walked c seed value i n w a b = let e : i ≡ n = omega arith in w .holds ∙ rw e refl
 
 -- ---- anchor
 

@@ -9,6 +9,7 @@ use borrow.Author.Tests.{lt-ltb, eq-eqb, ne-eqb}
 use lib.ListN.{length, take, drop, replicate, length-replicate}
 use lib.Pow.{pow-mono}
 use lib.Seq.{length-take-le}
+use Rattle.oneway.specs.Laws.{known-byte}
 use Rattle.lists.specs.Parts.{part-length}
 use Rattle.lists.specs.Values.{values, values-length, values-take, joined, joined-values}
 use Rattle.lists.specs.Writing.{over}
@@ -31,7 +32,7 @@ use Rattle.card.specs.Promises.{roundSaid, roundCard, roundOut, Rounded}
 use Rattle.card.specs.Sound.{Numbered, Sound, held-later, ready-passes}
 use Rattle.card.specs.Steps.{Puttable, Running, Turned, Payable, Paid}
 use Rattle.card.proofs.ReadLaws.{first-slot}
-use Rattle.card.proofs.StartLaws.{known-byte, known-holds, slots-filled}
+use Rattle.card.proofs.StartLaws.{known-holds, slots-filled}
 
 -- ---- pay
 

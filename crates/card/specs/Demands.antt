@@ -10,6 +10,7 @@ use borrow.Author.Tests.{eq-eqb, le-ltb, eqb-false}
 use lib.Dec.{eqb, ltb}
 use lib.ListN.{length, take}
 use lib.Seq.{take-at}
+use Rattle.records.specs.Chains.{chain-length}
 use Rattle.lists.specs.Values.{joined}
 use Rattle.lists.specs.Writing.{over}
 use Rattle.oneway.specs.Step.{known, width, step}
@@ -23,7 +24,6 @@ use Rattle.card.specs.Record.{widthOf, held, cardBytes}
 use Rattle.card.specs.Refused.{anchorJudged, later, inspectOf, ready, roundJudged}
 use Rattle.card.specs.Promises.{startSaid, startCard, ranSays, roundSaidBy, roundSaid, roundOut, anchorOut}
 use Rattle.card.specs.Sound.{Sound, sound, held-later}
-use Rattle.card.specs.Kept.{chain-length}
 use Rattle.card.specs.Run.{headAt, Given, after, heldAt, start-passes, head-read, round-passes, after-holds, after-puts-out}
 
 module _ (function k s : ℕ) (seed lent : List ℕ) (given : Given function k s seed lent) where

@@ -3,33 +3,27 @@
 use mathlib.Core.Path.{_≡_, refl, sym, ap, _∙_}
 use mathlib.Core.Bool.{true}
 use mathlib.Core.List.{List, _++_, map, append-assoc}
-use Prim.Native.Nat.{ℕ, zero, suc, _+_, _-_, _/_, _^_, _≤_, _<_}
-use native.Mathlib.Nat.{mul-le-mul-left, pow-succ'}
+use Prim.Native.Nat.{ℕ, zero, suc, _+_, _-_, _^_, _≤_, _<_}
+use native.Mathlib.Nat.{mul-le-mul-left}
 use native.Mathlib.Omega.{arith}
 use borrow.Author.Tests.{le-ltb, ne-eqb}
 use lib.ListN.{length, drop, replicate, length-append, length-replicate}
 use lib.Pow.{pow-mono}
 use lib.Seq.{take-at, drop-at, drop-append-add}
+use Rattle.records.specs.Numbers.{number-read}
+use Rattle.records.specs.Chains.{chain-length}
 use Rattle.lists.specs.Values.{values, joined, values-joined, joined-length}
 use Rattle.lists.specs.Writing.{over, over-length}
-use Rattle.oneway.specs.Laws.{step-length}
-use Rattle.oneway.specs.Step.{known, width, step, littleEndian}
-use Rattle.oneway.specs.declared.Chain.{Chain}
+use Rattle.oneway.specs.Step.{known, step}
 use Rattle.pebbling.specs.Demands.{never-more-than-slots}
 use Rattle.pebbling.specs.Recursion.{schedule, positions, chain}
 use Rattle.card.specs.declared.Head.{Head}
 use Rattle.card.specs.declared.Inspected.the-variants.{Card}
-use Rattle.card.specs.Record.{chainOf, widthOf, held, heldBytes, slotBytes, size, headBytes, filled, cardBytes, number, headOf, heldValues, freeSlots, allZero, laidOut}
+use Rattle.card.specs.Record.{chainOf, widthOf, held, heldBytes, slotBytes, size, headBytes, filled, cardBytes, headOf, heldValues, freeSlots, allZero, laidOut}
 use Rattle.card.specs.Refused.{numbers, inspectSlots, inspectOf}
 use Rattle.card.specs.Sound.{Numbered}
 
 -- ---- lists
-
--- each element of a chain has the chain's width
-pub chain-length : (c : Chain) (seed : List ℕ) → length seed ≡ width c → (n : ℕ) → length (chain (step c) seed n) ≡ width c
-unfolding chain
-chain-length c seed e zero = e
-chain-length c seed e (suc n) = step-length c (chain (step c) seed n) (chain-length c seed e n)
 
 -- what is written last stays
 pub over-over : (x y old : List ℕ) → length x ≡ length y → over x (over y old) ≡ over x old
@@ -39,14 +33,6 @@ all-zeros : (n : ℕ) → allZero (replicate n 0) ≡ true
 unfolding allZero
 all-zeros zero = refl
 all-zeros (suc n) = all-zeros n
-
--- a number in n bytes, low byte first, is read back
-digits : (n x : ℕ) → x < 256 ^ n → number (littleEndian n x) ≡ x
-unfolding number
-digits zero x h = omega arith
-digits (suc n) x h =
-    let l : x / 256 < 256 ^ n = omega (arith, pow-succ' 256 n) in
-    rw (digits n (x / 256) l) (omega arith)
 
 -- ---- values that fill a head's slots from slot 0 on
 
@@ -94,7 +80,7 @@ module _ (head : Head) (vs : List (List ℕ)) (nr : Numbered head) (from : 0 < h
   module _ (rest : List ℕ) where
     head-back : headOf (headBytes head ++ rest) ≡ head
     unfolding headOf headBytes
-    head-back = rw (digits 4 (head .round .0) round-small) refl
+    head-back = rw (number-read 4 (head .round .0) round-small) refl
 
     laid-back : laidOut (headBytes head ++ rest) ≡ true
     unfolding laidOut headBytes allZero

@@ -6,6 +6,7 @@ use Prim.Native.Nat.{ℕ, _+_, _-_, _*_}
 use lib.Dec.{eqb}
 use lib.ListN.{length, take, drop, getD, replicate}
 use Rattle.oneway.specs.Step.{width, littleEndian}
+use Rattle.records.specs.Numbers.{number}
 use Rattle.oneway.specs.declared.Chain.{Chain}
 use Rattle.pebbling.specs.Recursion.{schedule, positions, slots}
 use Rattle.lists.specs.Values.{values, joined}
@@ -52,11 +53,6 @@ unfoldable pub cardBytes : Head → List (List ℕ) → List ℕ
 cardBytes head vs = headBytes head ++ filled head vs
 
 -- ---- what is read from a record
-
--- bytes as a number, low byte first
-unfoldable pub number : List ℕ → ℕ
-number [] = 0
-number (x ∷ xs) = x + 256 * number xs
 
 unfoldable pub headOf : List ℕ → Head
 headOf card =

@@ -5,7 +5,7 @@ ghost use Prim.Native.Nat.{suc, _+_, _^_, _≤_, _<_};
 ghost use lib.ListN.{length};
 ghost use Rattle.lists.specs.Writing.{over};
 ghost use Rattle.pebbling.specs.Recursion.{slots as slotsOf};
-ghost use Rattle.card.specs.Record.{number, headBytes, headOf, heldBytes, slotBytes, allZero, laidOut};
+ghost use Rattle.card.specs.Record.{headBytes, headOf, heldBytes, slotBytes, allZero, laidOut};
 ghost use Rattle.card.specs.Refused.{numbers, inspectSlots, inspectOf};
 ghost use Rattle.card.specs.Steps.{Puttable};
 use super::Head;
@@ -13,18 +13,14 @@ use super::Inspected;
 use super::held::held_values;
 use oneway::Chain;
 use pebbling::RoundNumber;
+use records::wide;
+use records::word;
 use refusals::Refusal;
 
 // Each card record begins with these two bytes.
 const MARK: [u8; 2] = *b"\xB7\x01";
 
-fn wide(x: u8) -> u32
-    ensures { λ n. ⌜ (n ≡ x) × (n ≤ 255) ⌝ }
-{
-    x as u32
-}
-
-// Whether every byte is zero. All are looked at, so that the loop has no way out on its way.
+// Whether every byte is zero. No byte ends the loop early, so it runs over many at a time.
 fn zeros(bytes: &[u8]) -> bool
     ensures { λ r. ⌜ r ≡ allZero (now (bytes .entry)) ⌝ }
 {
@@ -54,15 +50,7 @@ fn laid_out(card: &[u8]) -> bool
     false
 }
 
-// The number in four bytes, low byte first.
-fn word(bytes: &[u8]) -> u32
-    requires { ⌜ length (now bytes) ≡ 4 ⌝ }
-    ensures { λ n. ⌜ n ≡ number (now (bytes .entry)) ⌝ }
-{
-    let high = wide(bytes[2]) + 256 * wide(bytes[3]);
-    wide(bytes[0]) + 256 * (wide(bytes[1]) + 256 * high)
-}
-
+// What the first 16 bytes say, whatever it is.
 fn read_head(card: &[u8]) -> Head
     requires { ⌜ 16 ≤ length (now card) ⌝ }
     ensures { λ head. ⌜ head ≡ headOf (now (card .entry)) ⌝ }
@@ -214,6 +202,6 @@ pub fn put(head: Head, filled: &[u8], card: &mut [u8])
     ensures { λ _. ⌜ now (card .exit) ≡ over (headBytes head ++ now (filled .entry)) (now (card .entry)) ⌝ }
 {
     let bytes = head_bytes(head);
-    slots::copy(&bytes, card);
-    slots::copy(filled, &mut card[16..]);
+    records::copy(&bytes, card);
+    records::copy(filled, &mut card[16..]);
 }

@@ -87,7 +87,7 @@ fn lay(head: Head, seed: &[u8], card: &mut [u8])
 {
     let n = layout::slot_bytes(head);
     let mut slots = [0u8; MOST];
-    slots::copy(seed, &mut slots);
+    records::copy(seed, &mut slots);
     layout::put(head, &slots[..n], card);
 }
 
@@ -142,7 +142,7 @@ fn pay(head: Head, hashes: u32, held: &[u8], out: &mut [u8]) -> RoundAnswer
     let w = oneway::width(Chain {
         function: head.function,
     });
-    slots::copy(&held[..w], out);
+    records::copy(&held[..w], out);
     let left = pebbling::rounds_left(k, round);
     RoundAnswer::Tick {
         position: left.0 - 1,
@@ -215,19 +215,6 @@ pub fn round(card: &mut [u8], out: &mut [u8]) -> RoundAnswer
     }
 }
 
-// n steps of the chain, in place.
-fn walk(chain: Chain, n: u32, value: &mut [u8])
-    requires { ⌜ T (isKnown (chain .function)) ⌝ }
-    requires { ⌜ length (now value) ≡ widthOf chain ⌝ }
-    ensures { λ _. ⌜ now (value .exit) ≡ element (step chain) (now (value .entry)) n ⌝ }
-{
-    let mut i: u32 = 0;
-    while i < n {
-        oneway::apply(chain, value);
-        i += 1;
-    }
-}
-
 // Writes the anchor of a card of 2^k ticks, the chain's element 2^k from the seed, to the front of the out buffer. Refuses an unknown
 // function (1), k over 20 (2), and a seed not of the function's width or an out buffer that is too short (4), in this order.
 pub fn anchor(function: u32, k: u32, seed: &[u8], out: &mut [u8]) -> Answer
@@ -245,8 +232,8 @@ pub fn anchor(function: u32, k: u32, seed: &[u8], out: &mut [u8]) -> Answer
         if out.len() < w {
             return Answer::Refused(Refusal::WrongLength);
         }
-        slots::copy(seed, out);
-        walk(chain, pebbling::powers::power(k), &mut out[..w]);
+        records::copy(seed, out);
+        records::walk(chain, pebbling::powers::power(k), &mut out[..w]);
         return Answer::Done;
     }
     Answer::Refused(Refusal::UnknownFunction)

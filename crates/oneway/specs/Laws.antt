@@ -1,15 +1,17 @@
 -- What callers know of `width` and `step` without opening them: a step gives a value of the chain's width, and bytes stay bytes.
 -- Assumes nothing.
 use mathlib.Core.Path.{_≡_, refl}
+use mathlib.Core.Bool.{true}
 use mathlib.Core.List.{List, [], _∷_}
 use Prim.Native.Nat.{ℕ, zero, suc, _/_, _%_, _≤_, _<_}
 use native.Mathlib.Omega.{arith}
+use borrow.Author.Tests.{ltb-true}
 use lib.ListN.{length, replicate}
 use Rattle.lists.specs.Bytes.{Bytes, bytes-none, bytes-cons, bytes-append}
 use Rattle.md5.specs.Md5.{added, blockOf}
 use Rattle.aes.specs.Bounds.{cipher-length, cipher-bytes}
 use Rattle.oneway.specs.declared.Chain.{Chain}
-use Rattle.oneway.specs.Step.{width, littleEndian, littleEndianWords, padded, initial, digest, stepBy, step}
+use Rattle.oneway.specs.Step.{known, width, littleEndian, littleEndianWords, padded, initial, digest, stepBy, step}
 
 pub width-positive : (chain : Chain) → 0 < width chain
 unfolding width
@@ -18,6 +20,11 @@ width-positive chain = omega arith
 pub width-small : (chain : Chain) → width chain ≤ 16
 unfolding width
 width-small chain = omega arith
+
+-- a known function's number fits a byte
+pub known-byte : (function : ℕ) → known function ≡ true → function ≤ 255
+unfolding known
+known-byte function e = omega (arith, ltb-true function 2 e)
 
 digest-length : (m : List ℕ) → length (digest m) ≡ 16
 unfolding digest littleEndianWords blockOf added

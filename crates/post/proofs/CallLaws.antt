@@ -1,19 +1,19 @@
 -- What the code of enrol, offer and settle comes to, over plain lists and numbers: one law for each answer, in the order of the source.
 -- Assumes nothing.
 use mathlib.Core.Path.{_≡_, refl, sym, ap, _∙_}
-use mathlib.Core.Bool.{Bool, true, false, cond, not, _||_}
-use mathlib.Core.List.{List, [], _∷_, _++_, append-assoc}
-use Prim.Native.Nat.{ℕ, _+_, _-_, _^_, _≤_, _<_, min}
+use mathlib.Core.Bool.{Bool, true, false}
+use mathlib.Core.List.{List, _++_}
+use Prim.Native.Nat.{ℕ, _+_, _-_, _^_, _≤_, _<_}
 use native.Mathlib.Omega.{arith}
-use borrow.Author.Tests.{lt-ltb, le-ltb, eq-eqb, ne-eqb, ltb-true}
+use borrow.Author.Tests.{lt-ltb, le-ltb, eq-eqb, ne-eqb}
 use borrow.Rule.Slice.PartMut.{putMid}
-use lib.Dec.{T, eqb, ltb}
+use lib.Dec.{eqb, ltb}
 use lib.ListN.{length, take, drop, replicate, length-append, length-replicate, length-drop}
 use lib.Pow.{pow-mono}
 use lib.Seq.{take-at, drop-at, drop-drop, length-take-le}
 use Rattle.lists.specs.Parts.{part-tail, part-length, put-tail, drop-put}
 use Rattle.lists.specs.Writing.{over, over-length}
-use Rattle.oneway.specs.Laws.{width-small}
+use Rattle.oneway.specs.Laws.{width-small, known-byte}
 use Rattle.oneway.specs.Step.{known, width, step}
 use Rattle.oneway.specs.declared.Chain.{Chain}
 use Rattle.pebbling.specs.Promises.{Power}
@@ -25,26 +25,17 @@ use Rattle.post.specs.declared.Found.{Found}
 use Rattle.post.specs.declared.Found.the-variants.{At, Nothing}
 use Rattle.post.specs.declared.Inspected.{Inspected}
 use Rattle.post.specs.declared.Inspected.the-variants.{Refused, Post}
-use Rattle.post.specs.declared.Answer.the-variants.{Done}
-use Rattle.post.specs.declared.Answer.the-variants.{Refused as NotDone}
+use Rattle.post.specs.declared.Answer.the-variants.{Done, Refused as NotDone}
 use Rattle.post.specs.declared.OfferAnswer.{OfferAnswer}
-use Rattle.post.specs.declared.OfferAnswer.the-variants.{Credited}
-use Rattle.post.specs.declared.OfferAnswer.the-variants.{Refused as NoCredit}
-use Rattle.post.specs.declared.SettleAnswer.the-variants.{Yes, No}
-use Rattle.post.specs.declared.SettleAnswer.the-variants.{Refused as NoVerdict}
-use Rattle.post.specs.Record.{size, chainOf, widthOf, postBytes, headBytes, anchorOf, heldOf}
+use Rattle.post.specs.declared.OfferAnswer.the-variants.{Credited, Refused as NoCredit}
+use Rattle.post.specs.declared.SettleAnswer.the-variants.{Yes, No, Refused as NoVerdict}
+use Rattle.post.specs.Record.{chainOf, widthOf, postBytes, headBytes, anchorOf, heldOf}
 use Rattle.post.specs.Refused.{passing, numbers, roomFor, enrolJudged, inspectOf, gapStrange, ready, offerJudged, settleReady, settleJudged}
 use Rattle.post.specs.Search.{same, fewest}
 use Rattle.post.specs.Fewest.{least-found}
 use Rattle.post.specs.Promises.{unpaid, enrolSaid, enrolPost, Enrolled, limitOf, foundBy, credited, offerSaid, offerPost, Offered, arrivesOf, settleSaid, Settled}
-use Rattle.post.specs.Sound.{Numbered, Enrollable, Sound, Searchable}
+use Rattle.post.specs.Sound.{Enrollable, Searchable}
 use Rattle.post.specs.Steps.{Puttable, Searched}
-use Rattle.post.proofs.ReadLaws.{fields-within}
-
--- a known function's number fits a byte
-known-byte : (function : ℕ) → known function ≡ true → function ≤ 255
-unfolding known
-known-byte function e = omega (arith, ltb-true function 2 e)
 
 -- ---- room_for
 

@@ -1,27 +1,26 @@
 -- What the code that reads and writes records comes to, over plain lists and numbers: one law for each answer, in the order of the
 -- source. Assumes nothing.
 use mathlib.Core.Path.{_≡_, refl, sym, ap, _∙_}
-use mathlib.Core.Bool.{Bool, true, false, cond, not, _&&_}
-use mathlib.Core.List.{List, [], _∷_, _++_, append-assoc}
-use Prim.Native.Nat.{ℕ, _+_, _-_, _*_, _^_, _≤_, _<_}
+use mathlib.Core.Bool.{Bool, true, false, cond, not}
+use mathlib.Core.List.{List, _++_, append-assoc}
+use Prim.Native.Nat.{ℕ, _+_, _-_, _^_, _≤_, _<_}
 use native.Mathlib.Omega.{arith}
 use borrow.Author.Tests.{lt-ltb, le-ltb, eq-eqb, ne-eqb}
 use borrow.Rule.Slice.PartMut.{putMid}
 use lib.Dec.{eqb, ltb}
-use lib.ListN.{length, take, drop, getD, length-append}
+use lib.ListN.{length, take, drop, getD, length-append, length-drop}
 use lib.Seq.{drop-drop, length-take-le, take-append-add, drop-append-add}
-use lib.ListN.{length-drop}
 use Rattle.lists.specs.Parts.{part-tail, part-length, put-tail}
 use Rattle.lists.specs.Writing.{over, over-length}
 use Rattle.oneway.specs.Laws.{width-small}
-use Rattle.oneway.specs.Step.{width, known}
+use Rattle.oneway.specs.Step.{known}
 use Rattle.pebbling.specs.Promises.{Power}
 use Rattle.refusals.specs.declared.Refusal.{Refusal}
 use Rattle.refusals.specs.declared.Refusal.the-variants.{UnknownFunction, TooManyTicks, WrongLength, BadRecord}
 use Rattle.post.specs.declared.Head.{Head}
 use Rattle.post.specs.declared.Inspected.{Inspected}
 use Rattle.post.specs.declared.Inspected.the-variants.{Refused, Post}
-use Rattle.post.specs.Record.{size, chainOf, widthOf, headBytes, postBytes, marked, number, headOf, anchorOf, heldOf}
+use Rattle.post.specs.Record.{chainOf, widthOf, headBytes, postBytes, marked, headOf, anchorOf, heldOf}
 use Rattle.post.specs.Refused.{passing, numbers, inspectPaid, inspectOf}
 use Rattle.post.specs.Search.{same}
 use Rattle.post.specs.Steps.{Puttable}
@@ -36,18 +35,6 @@ module _ (post : List ℕ) where
   pub mark-second : getD post 0 0 ≡ 0xB7 → eqb (getD post 1 0) 0x02 ≡ marked post
   unfolding marked
   mark-second a = rw (eq-eqb (getD post 0 0) 0xB7 a) refl
-
--- ---- word
-
-pub word-number : (bytes : List ℕ) → length bytes ≡ 4
-    → getD bytes 0 0 + 256 * (getD bytes 1 0 + 256 * (getD bytes 2 0 + 256 * getD bytes 3 0)) ≡ number bytes
-unfolding number
-word-number [] e = absurd (omega arith)
-word-number (a ∷ []) e = absurd (omega arith)
-word-number (a ∷ b ∷ []) e = absurd (omega arith)
-word-number (a ∷ b ∷ c ∷ []) e = absurd (omega arith)
-word-number (a ∷ b ∷ c ∷ d ∷ []) e = omega arith
-word-number (a ∷ b ∷ c ∷ d ∷ x ∷ l) e = absurd (omega arith)
 
 -- ---- check_numbers
 

@@ -2,22 +2,21 @@
 use mathlib.Core.Path.{_≡_, refl, sym, ap, _∙_}
 use mathlib.Core.Bool.{Bool, true, false, cond, _&&_}
 use mathlib.Core.List.{List, [], _∷_}
-use Prim.Native.Nat.{ℕ, zero, suc, _+_, _≤_, _<_}
+use Prim.Native.Nat.{ℕ, suc, _+_, _≤_, _<_}
 use native.Mathlib.Numerals.{add-one}
 use native.Mathlib.Omega.{arith}
 use borrow.Author.Tests.{eq-eqb, ne-eqb}
 use lib.Dec.{eqb}
 use lib.ListN.{length, drop, getD, drop-of-length-le}
 use lib.Seq.{drop-cons}
-use Rattle.oneway.specs.Laws.{step-length}
+use Rattle.records.proofs.Laws.{Walking, walking-none, walking-next}
 use Rattle.oneway.specs.Step.{width, step}
 use Rattle.oneway.specs.declared.Chain.{Chain}
 use Rattle.pebbling.specs.Recursion.{chain}
 use Rattle.post.specs.declared.Found.{Found}
 use Rattle.post.specs.declared.Found.the-variants.{At, Nothing}
-use Rattle.post.specs.Search.{same, orElse, least, fewest}
+use Rattle.post.specs.Search.{same, least, fewest}
 use Rattle.post.specs.Fewest.{least-found, least-kept}
-use Rattle.post.specs.Kept.{chain-add}
 
 -- ---- same: what is left to compare decides
 
@@ -56,29 +55,6 @@ module _ (a b : List ℕ) (i : ℕ) (l : Comparing a b i) where
   compared h =
       let k : length b ≤ i = omega (arith, l .sized) in
       sym (rw (drop-of-length-le a h, drop-of-length-le b k) refl) ∙ l .rest
-
--- ---- walk: after i steps, the chain's element i
-
-pub record Walking (c : Chain) (seed value : List ℕ) (i : ℕ) : Type 0 where
-  pub wide : length seed ≡ width c
-  pub sized : length value ≡ length seed
-  pub holds : value ≡ chain (step c) seed i
-
-pub walking-none : (c : Chain) (seed : List ℕ) → length seed ≡ width c → Walking c seed seed 0
-unfolding chain
-walking-none c seed e = record { wide = e; sized = refl; holds = refl }
-
-pub walking-next : (c : Chain) (seed value value′ : List ℕ) (i : ℕ) → Walking c seed value i → value′ ≡ step c value → Walking c seed value′ (i + 1)
-unfolding chain
-walking-next c seed value value′ i w e =
-    record {
-      wide = w .wide;
-      sized = ap length e ∙ step-length c value (w .sized ∙ w .wide) ∙ sym (w .wide);
-      holds = rw (add-one i) (e ∙ ap (step c) (w .holds));
-    }
-
-pub walked : (c : Chain) (seed value : List ℕ) (i n : ℕ) → Walking c seed value i → i ≤ n → n ≤ i → value ≡ chain (step c) seed n
-walked c seed value i n w a b = let e : i ≡ n = omega arith in w .holds ∙ rw e refl
 
 -- ---- search: the least of those looked at is found, and finding one ends the search
 

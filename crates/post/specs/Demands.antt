@@ -1,56 +1,32 @@
 -- What is asked of a post, as theorems about what enrol, offer and settle say and leave. Assumes nothing.
 use mathlib.Core.Path.{_≡_, refl, sym, ap, _∙_}
-use mathlib.Core.Bool.{Bool, true, false, cond, not, _&&_, _||_}
+use mathlib.Core.Bool.{Bool, true, false}
 use mathlib.Core.List.{List, [], _∷_}
-use mathlib.Core.Logic.{⊎-elim}
-use Prim.Native.Nat.{ℕ, zero, suc, _+_, _-_, _^_, _≤_, _<_, min}
-use native.Mathlib.Nat.{eq-zero-or-pos}
+use Prim.Native.Nat.{ℕ, _+_, _^_, _≤_, _<_}
 use native.Mathlib.Omega.{arith}
-use borrow.Author.Tests.{le-ltb, lt-ltb, eq-eqb, ne-eqb, eqb-true}
-use lib.Dec.{eqb, ltb}
+use borrow.Author.Tests.{le-ltb, eq-eqb}
 use lib.ListN.{length, drop, length-drop}
-use lib.Pow.{pow-pos}
 use lib.Seq.{length-take-le}
+use Rattle.records.specs.Chains.{chain-add}
 use Rattle.lists.specs.Writing.{over}
 use Rattle.oneway.specs.Laws.{width-small}
-use Rattle.oneway.specs.Step.{known, width, step}
-use Rattle.oneway.specs.declared.Chain.{Chain}
+use Rattle.oneway.specs.Step.{known, step}
 use Rattle.pebbling.specs.Recursion.{chain}
-use Rattle.refusals.specs.Numbers.{numberOf, saidOf}
+use Rattle.refusals.specs.Numbers.{saidOf}
 use Rattle.refusals.specs.declared.Refusal.{Refusal}
-use Rattle.refusals.specs.declared.Refusal.the-variants.{Spent, NotTaken}
+use Rattle.refusals.specs.declared.Refusal.the-variants.{NotTaken}
 use Rattle.post.specs.declared.Head.{Head}
 use Rattle.post.specs.declared.Found.{Found}
 use Rattle.post.specs.declared.Found.the-variants.{At, Nothing}
 use Rattle.post.specs.declared.Inspected.{Inspected}
 use Rattle.post.specs.declared.Inspected.the-variants.{Refused, Post}
 use Rattle.post.specs.Record.{size, chainOf, widthOf, postBytes, headOf, anchorOf, heldOf}
-use Rattle.post.specs.Refused.{passing, numbers, roomFor, enrolJudged, inspectPaid, inspectOf, gapStrange, ready, offerJudged, settleReady, settleJudged}
+use Rattle.post.specs.Refused.{numbers, enrolJudged, inspectOf, offerJudged, settleReady, settleJudged}
 use Rattle.post.specs.Search.{same, fewest, least}
-use Rattle.post.specs.Fewest.{same-refl, same-eq, eq-same, First, least-none, least-found, least-some, first-least}
-use Rattle.post.specs.Sound.{Numbered, Sound, sound, Searchable, searchable, Enrollable, enrollable}
-use Rattle.post.specs.Kept.{chain-add, chain-length, paid-fits, Writable, written-head, written-anchor, written-held, written-passes}
-use Rattle.post.specs.Promises.{
-  unpaid,
-  enrolSaidBy,
-  enrolPostBy,
-  enrolSaid,
-  enrolPost,
-  limitOf,
-  foundBy,
-  credited,
-  foundSaid,
-  foundPost,
-  offerSaidBy,
-  offerPostBy,
-  offerSaid,
-  offerPost,
-  arrivesOf,
-  verdict,
-  settleSaidBy,
-  settleSaid,
-  not-refused,
-}
+use Rattle.post.specs.Fewest.{same-eq, eq-same, First, least-found, least-some}
+use Rattle.post.specs.Sound.{Numbered, sound, Searchable, searchable, Enrollable, enrollable}
+use Rattle.post.specs.Kept.{paid-fits, Writable, written-head, written-anchor, written-held, written-passes}
+use Rattle.post.specs.Promises.{unpaid, enrolSaidBy, enrolPostBy, enrolSaid, enrolPost, limitOf, foundBy, credited, foundSaid, foundPost, offerSaidBy, offerPostBy, offerSaid, offerPost, arrivesOf, verdict, settleSaid, not-refused}
 
 -- ---- an offer that reaches the search
 

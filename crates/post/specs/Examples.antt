@@ -1,14 +1,15 @@
 -- The definitions tried on examples, each of which antt computes. Assumes nothing.
 use mathlib.Core.Path.{_≡_, refl}
-use mathlib.Core.Bool.{true, false, _||_}
+use mathlib.Core.Bool.{true, _||_}
 use mathlib.Core.List.{List, [], _∷_}
 use Prim.Native.Nat.{ℕ, suc}
 use lib.Dec.{eqb}
 use lib.ListN.{getD}
+use Rattle.records.specs.Numbers.{number}
 use Rattle.pebbling.specs.Recursion.{chain}
 use Rattle.post.specs.declared.Head.{Head}
 use Rattle.post.specs.declared.Found.the-variants.{At, Nothing}
-use Rattle.post.specs.Record.{headBytes, postBytes, number, headOf, marked}
+use Rattle.post.specs.Record.{headBytes, postBytes, headOf, marked}
 use Rattle.post.specs.Search.{same, least, fewest}
 
 -- the first counts, and 0 is never tried

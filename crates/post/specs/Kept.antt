@@ -1,53 +1,29 @@
 -- A record that was written is read back: the head, the anchor and the value held. And steps add up. Assumes nothing.
-use mathlib.Core.Path.{_≡_, refl, sym, ap, _∙_}
-use mathlib.Core.Bool.{true, false, not, _&&_}
-use mathlib.Core.List.{List, [], _∷_, _++_, append-assoc}
-use Prim.Native.Nat.{ℕ, zero, suc, _+_, _*_, _/_, _%_, _^_, _≤_, _<_}
-use native.Mathlib.Nat.{pow-succ', eq-zero-or-pos}
+use mathlib.Core.Path.{_≡_, refl}
+use mathlib.Core.Bool.{true}
+use mathlib.Core.List.{List, _++_, append-assoc}
+use Prim.Native.Nat.{ℕ, _+_, _^_, _≤_, _<_}
+use native.Mathlib.Nat.{eq-zero-or-pos}
 use native.Mathlib.Omega.{arith}
 use mathlib.Core.Logic.{⊎-elim}
-use borrow.Author.Tests.{le-ltb, lt-ltb, eq-eqb, ne-eqb}
-use lib.Dec.{eqb, ltb}
-use lib.ListN.{length, take, drop, length-append}
+use borrow.Author.Tests.{le-ltb, eq-eqb, ne-eqb}
+use lib.ListN.{length, drop, length-append}
 use lib.Pow.{pow-mono}
 use lib.Seq.{take-at, drop-at, drop-drop}
+use Rattle.records.specs.Numbers.{number-read}
 use Rattle.lists.specs.Writing.{over, over-length}
-use Rattle.oneway.specs.Laws.{width-small, step-length}
-use Rattle.oneway.specs.Step.{known, width, step, littleEndian}
-use Rattle.oneway.specs.declared.Chain.{Chain}
-use Rattle.pebbling.specs.Recursion.{chain}
+use Rattle.oneway.specs.Laws.{width-small}
 use Rattle.post.specs.declared.Head.{Head}
-use Rattle.post.specs.declared.Inspected.{Inspected}
-use Rattle.post.specs.declared.Inspected.the-variants.{Refused, Post}
-use Rattle.post.specs.Record.{size, chainOf, widthOf, headBytes, postBytes, marked, number, headOf, anchorOf, heldOf}
-use Rattle.post.specs.Refused.{passing, numbers, inspectPaid, inspectOf}
+use Rattle.post.specs.declared.Inspected.the-variants.{Post}
+use Rattle.post.specs.Record.{size, chainOf, widthOf, headBytes, postBytes, marked, headOf, anchorOf, heldOf}
+use Rattle.post.specs.Refused.{numbers, inspectPaid, inspectOf}
 use Rattle.post.specs.Sound.{Numbered}
 use Rattle.post.specs.Search.{same}
 use Rattle.post.specs.Fewest.{same-refl}
 
 -- ---- steps
 
--- m steps and n more
-pub chain-add : (f : List ℕ → List ℕ) (x : List ℕ) (m n : ℕ) → chain f x (m + n) ≡ chain f (chain f x m) n
-unfolding chain
-chain-add f x m zero = let e : m + 0 ≡ m = omega arith in rw e refl
-chain-add f x m (suc n) = let e : m + suc n ≡ suc (m + n) = omega arith in rw e (ap f (chain-add f x m n))
-
--- each element of a chain has the chain's width
-pub chain-length : (c : Chain) (seed : List ℕ) → length seed ≡ width c → (n : ℕ) → length (chain (step c) seed n) ≡ width c
-unfolding chain
-chain-length c seed e zero = e
-chain-length c seed e (suc n) = step-length c (chain (step c) seed n) (chain-length c seed e n)
-
 -- ---- numbers
-
-pub number-read : (n x : ℕ) → x < 256 ^ n → number (littleEndian n x) ≡ x
-unfolding number
-number-read zero x h = omega arith
-number-read (suc n) x h =
-    let p : 256 ^ suc n ≡ 256 * 256 ^ n = pow-succ' 256 n in
-    let q : x / 256 < 256 ^ n = omega (arith, p) in
-    rw (number-read n (x / 256) q) (omega arith)
 
 -- what is paid fits its four bytes
 pub paid-fits : (k paid : ℕ) → k ≤ 20 → paid ≤ 2 ^ k → paid < 256 ^ 4

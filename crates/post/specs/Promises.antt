@@ -1,7 +1,7 @@
 -- What enrol, offer and settle promise, and that each promise leaves no choice. The right sides are definitions over what was lent;
 -- a refusal is a case of them: its number alone is said, and no byte changes. Assumes nothing.
 use mathlib.Core.Path.{_≡_, refl, sym, ap, _∙_}
-use mathlib.Core.Bool.{Bool, true, false, cond}
+use mathlib.Core.Bool.{Bool, true, false}
 use mathlib.Core.List.{List, [], _∷_}
 use Prim.Native.Nat.{ℕ, _+_, _-_, _^_, min}
 use native.Mathlib.Omega.{arith}
@@ -15,18 +15,15 @@ use Rattle.refusals.specs.declared.Refusal.{Refusal}
 use Rattle.refusals.specs.declared.Refusal.the-variants.{NotTaken}
 use Rattle.post.specs.declared.Head.{Head}
 use Rattle.post.specs.declared.Inspected.{Inspected}
-use Rattle.post.specs.declared.Inspected.the-variants.{Post}
-use Rattle.post.specs.declared.Inspected.the-variants.{Refused as TurnedDown}
+use Rattle.post.specs.declared.Inspected.the-variants.{Post, Refused as TurnedDown}
 use Rattle.post.specs.declared.Found.{Found}
 use Rattle.post.specs.declared.Found.the-variants.{At, Nothing}
 use Rattle.post.specs.declared.Answer.{Answer}
 use Rattle.post.specs.declared.Answer.the-variants.{Done, Refused}
 use Rattle.post.specs.declared.OfferAnswer.{OfferAnswer}
-use Rattle.post.specs.declared.OfferAnswer.the-variants.{Credited}
-use Rattle.post.specs.declared.OfferAnswer.the-variants.{Refused as NoCredit}
+use Rattle.post.specs.declared.OfferAnswer.the-variants.{Credited, Refused as NoCredit}
 use Rattle.post.specs.declared.SettleAnswer.{SettleAnswer}
-use Rattle.post.specs.declared.SettleAnswer.the-variants.{Yes, No}
-use Rattle.post.specs.declared.SettleAnswer.the-variants.{Refused as NoVerdict}
+use Rattle.post.specs.declared.SettleAnswer.the-variants.{Yes, No, Refused as NoVerdict}
 use Rattle.post.specs.Record.{chainOf, postBytes, anchorOf, heldOf}
 use Rattle.post.specs.Refused.{enrolJudged, offerJudged, settleJudged}
 use Rattle.post.specs.Search.{same, fewest}

@@ -2,10 +2,11 @@
 -- from one. The anchor and the value held go by the width of the chain's values. Assumes nothing.
 use mathlib.Core.Bool.{Bool, _&&_}
 use mathlib.Core.List.{List, [], _∷_, _++_}
-use Prim.Native.Nat.{ℕ, _+_, _*_}
+use Prim.Native.Nat.{ℕ, _+_}
 use lib.Dec.{eqb}
 use lib.ListN.{take, drop, getD}
 use Rattle.oneway.specs.Step.{width, littleEndian}
+use Rattle.records.specs.Numbers.{number}
 use Rattle.oneway.specs.declared.Chain.{Chain}
 use Rattle.post.specs.declared.Head.{Head}
 
@@ -37,11 +38,6 @@ postBytes head anchor held = headBytes head ++ (anchor ++ held)
 
 unfoldable pub marked : List ℕ → Bool
 marked post = eqb (getD post 0 0) (getD mark 0 0) && eqb (getD post 1 0) (getD mark 1 0)
-
--- bytes as a number, low byte first
-unfoldable pub number : List ℕ → ℕ
-number [] = 0
-number (x ∷ xs) = x + 256 * number xs
 
 unfoldable pub headOf : List ℕ → Head
 headOf post = record { function = getD post 2 0; k = getD post 3 0; paid = number (take 4 (drop 4 post)) }

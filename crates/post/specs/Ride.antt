@@ -1,15 +1,14 @@
 -- A post that is offered the values of one chain, which is what a card puts out: x_0 is the seed, x_(2^k) is the anchor, and the ticks
 -- are x_(2^k - 1) down to x_0. For every known function, k up to 20 and seed of the function's width. Assumes nothing.
 use mathlib.Core.Path.{_≡_, refl, sym, ap, _∙_}
-use mathlib.Core.Bool.{true, false, cond, not, _||_}
+use mathlib.Core.Bool.{true, false}
 use mathlib.Core.List.{List, [], _∷_}
 use mathlib.Core.Logic.{⊎-elim}
 use Prim.Native.Nat.{ℕ, zero, suc, _+_, _-_, _^_, _≤_, _<_}
 use native.Mathlib.Omega.{arith}
 use borrow.Author.Tests.{le-ltb, eq-eqb, ne-eqb}
-use lib.Dec.{eqb, ltb}
 use lib.ListN.{length}
-use Rattle.lists.specs.Writing.{over}
+use Rattle.records.specs.Chains.{chain-length, chain-add}
 use Rattle.oneway.specs.Step.{known, width, step}
 use Rattle.oneway.specs.declared.Chain.{Chain}
 use Rattle.pebbling.specs.Len.{lt-or-le}
@@ -18,24 +17,12 @@ use Rattle.refusals.specs.Numbers.{saidOf}
 use Rattle.refusals.specs.declared.Refusal.the-variants.{Spent, NotTaken}
 use Rattle.post.specs.declared.Head.{Head}
 use Rattle.post.specs.declared.Inspected.the-variants.{Post}
-use Rattle.post.specs.Record.{size, postBytes, headOf, anchorOf, heldOf}
+use Rattle.post.specs.Record.{size, headOf, anchorOf, heldOf}
 use Rattle.post.specs.Refused.{numbers, roomFor, enrolJudged, inspectOf, gapStrange, ready, offerJudged}
-use Rattle.post.specs.Sound.{Numbered, Enrollable, sound}
-use Rattle.post.specs.Kept.{chain-add, chain-length, written-anchor, written-held}
+use Rattle.post.specs.Sound.{Numbered, sound}
+use Rattle.post.specs.Kept.{written-anchor, written-held}
 use Rattle.post.specs.Promises.{unpaid, enrolSaid, enrolPost, credited, offerSaid, offerPost, settleSaid}
-use Rattle.post.specs.Demands.{
-  credit-is-fewest,
-  credit-leaves,
-  taken-where-some,
-  refused-where-none,
-  credit-writable,
-  credit-passes,
-  enrol-done,
-  enrol-writable,
-  enrol-passes,
-  settle-yes,
-  settle-passes,
-}
+use Rattle.post.specs.Demands.{credit-is-fewest, credit-leaves, taken-where-some, refused-where-none, credit-writable, credit-passes, enrol-done, enrol-writable, enrol-passes, settle-yes, settle-passes}
 
 -- a gap limit from 1 to 64
 pub record Allowed (gap : ℕ) : Type 0 where

@@ -1,7 +1,7 @@
 -- What the functions beneath the calls ask and promise. Assumes nothing.
 use mathlib.Core.Path.{_≡_}
 use mathlib.Core.List.{List}
-use Prim.Native.Nat.{ℕ, _+_, _≤_}
+use Prim.Native.Nat.{ℕ, _≤_}
 use lib.ListN.{length}
 use Rattle.post.specs.declared.Head.{Head}
 use Rattle.post.specs.declared.OfferAnswer.{OfferAnswer}

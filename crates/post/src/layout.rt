@@ -3,7 +3,7 @@ ghost use mathlib.Core.Path.{_≡_};
 ghost use Prim.Native.Nat.{_≤_};
 ghost use lib.ListN.{length};
 ghost use Rattle.lists.specs.Writing.{over};
-ghost use Rattle.post.specs.Record.{number, headBytes, headOf, anchorOf, postBytes};
+ghost use Rattle.post.specs.Record.{headBytes, headOf, anchorOf, postBytes};
 ghost use Rattle.post.specs.Record.{marked as isMarked};
 ghost use Rattle.post.specs.Refused.{numbers, inspectPaid, inspectOf};
 ghost use Rattle.post.specs.Steps.{Puttable};
@@ -11,6 +11,9 @@ use super::Head;
 use super::Inspected;
 use super::steps;
 use oneway::Chain;
+use records::copy;
+use records::wide;
+use records::word;
 use refusals::Refusal;
 
 // Each post record begins with these two bytes.
@@ -18,24 +21,6 @@ const MARK: [u8; 2] = *b"\xB7\x02";
 
 // The bytes of a record.
 pub const SIZE: usize = 40;
-
-fn wide(x: u8) -> u32
-    ensures { λ n. ⌜ (n ≡ x) × (n ≤ 255) ⌝ }
-{
-    x as u32
-}
-
-// Writes `from` to the front of `to`.
-pub fn copy(from: &[u8], to: &mut [u8])
-    requires { ⌜ length (now from) ≤ length (now to) ⌝ }
-    ensures { λ _. ⌜ now (to .exit) ≡ over (now (from .entry)) (now (to .entry)) ⌝ }
-{
-    let mut i: usize = 0;
-    while i < from.len() {
-        to[i] = from[i];
-        i += 1;
-    }
-}
 
 // Whether a record begins with the mark.
 fn marked(post: &[u8]) -> bool
@@ -46,15 +31,6 @@ fn marked(post: &[u8]) -> bool
         return false;
     }
     post[1] == MARK[1]
-}
-
-// The number in four bytes, low byte first.
-fn word(bytes: &[u8]) -> u32
-    requires { ⌜ length (now bytes) ≡ 4 ⌝ }
-    ensures { λ n. ⌜ n ≡ number (now (bytes .entry)) ⌝ }
-{
-    let high = wide(bytes[2]) + 256 * wide(bytes[3]);
-    wide(bytes[0]) + 256 * (wide(bytes[1]) + 256 * high)
 }
 
 fn read_head(post: &[u8]) -> Head

@@ -2,7 +2,6 @@
 // record, and `steps` goes along the chain.
 ghost use mathlib.Core.Path.{_≡_};
 ghost use Prim.Native.Nat.{_^_, _≤_};
-ghost use lib.ListN.{length};
 ghost use Rattle.lists.specs.Writing.{over};
 ghost use Rattle.post.specs.Record.{postBytes};
 ghost use Rattle.post.specs.Refused.{roomFor, enrolJudged, gapStrange, settleJudged, settleReady};
@@ -91,7 +90,7 @@ fn lay(head: Head, anchor: &[u8], post: &mut [u8])
     requires { ⌜ Enrollable (now anchor) (now post) head ⌝ }
     ensures { λ _. ⌜ now (post .exit) ≡ over (postBytes head (now (anchor .entry)) (now (anchor .entry))) (now (post .entry)) ⌝ }
 {
-    layout::copy(anchor, &mut post[8..]);
+    records::copy(anchor, &mut post[8..]);
     layout::put(head, anchor, post);
 }
 
@@ -171,7 +170,7 @@ fn seek(head: Head, post: &[u8], value: &[u8], gap: u32) -> Found
     let end = from + w;
     let n = limit(head, gap);
     let mut stepped = [0u8; WIDEST];
-    layout::copy(value, &mut stepped);
+    records::copy(value, &mut stepped);
     steps::search(chain, n, &post[from..end], &mut stepped[..w])
 }
 
@@ -257,7 +256,7 @@ fn arrives(chain: Chain, anchor: &[u8], last: &[u8], paid: u32) -> bool
 {
     let w = oneway::width(chain);
     let mut stepped = [0u8; WIDEST];
-    layout::copy(last, &mut stepped);
+    records::copy(last, &mut stepped);
     steps::leads(chain, paid, anchor, &mut stepped[..w])
 }
 

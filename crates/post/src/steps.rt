@@ -9,6 +9,7 @@ ghost use Rattle.post.specs.Search.{fewest};
 ghost use Rattle.post.specs.Search.{same as sameAs};
 use super::Found;
 use oneway::Chain;
+use records::walk;
 
 // Whether two slices hold the same bytes.
 pub fn same(a: &[u8], b: &[u8]) -> bool
@@ -25,19 +26,6 @@ pub fn same(a: &[u8], b: &[u8]) -> bool
         i += 1;
     }
     true
-}
-
-// n steps of the chain, in place.
-pub fn walk(chain: Chain, n: u32, value: &mut [u8])
-    requires { ⌜ T (known (chain .function)) ⌝ }
-    requires { ⌜ length (now value) ≡ width chain ⌝ }
-    ensures { λ _. ⌜ now (value .exit) ≡ element (step chain) (now (value .entry)) n ⌝ }
-{
-    let mut i: u32 = 0;
-    while i < n {
-        oneway::apply(chain, value);
-        i += 1;
-    }
 }
 
 // Whether n steps lead from the value to another one. It steps the value in place.

@@ -1,6 +1,6 @@
 -- A card that pays a post. The post is enrolled with the card's own anchor and offered what the card's rounds put out, for every known function,
 -- every k up to 20, every schedule and every seed of the function's width. Assumes nothing.
-use mathlib.Core.Path.{_≡_, refl, sym, ap, _∙_}
+use mathlib.Core.Path.{_≡_, ap, _∙_}
 use mathlib.Core.List.{List, [], _∷_}
 use Prim.Native.Nat.{ℕ, zero, suc, _+_, _-_, _^_, _≤_, _<_}
 use native.Mathlib.Nat.{pow-succ'}
@@ -8,19 +8,17 @@ use native.Mathlib.Omega.{arith}
 use lib.ListN.{length, take, drop}
 use lib.Pow.{pow-pos}
 use lib.Seq.{take-at}
-use Rattle.lists.specs.Writing.{over}
+use Rattle.records.specs.Numbers.{number}
+use Rattle.records.specs.Chains.{chain-length}
 use Rattle.oneway.specs.declared.Chain.{Chain}
 use Rattle.oneway.specs.Step.{width, step}
 use Rattle.pebbling.specs.Recursion.{chain}
-use Rattle.card.specs.Kept.{chain-length}
 use Rattle.card.specs.Promises.{roundOut, anchorOut}
-use Rattle.card.specs.Demands.{Given, after, paying-round-pays, anchor-is-the-last}
-use Rattle.refusals.specs.Numbers.{saidOf}
-use Rattle.refusals.specs.declared.Refusal.the-variants.{Spent, NotTaken}
+use Rattle.card.specs.Run.{Given, after}
+use Rattle.card.specs.Demands.{paying-round-pays, anchor-is-the-last}
 use Rattle.post.specs.Record.{size, headOf}
 use Rattle.post.specs.Promises.{enrolSaid, enrolPost, offerSaid, offerPost, settleSaid}
-use Rattle.post.specs.Ride.{Allowed, Standing, missed-taken, missed-exactly, missed-refused, ride-enrolled, ride-stands, ride-credits, ride-paid, ride-spent, ride-settles}
-use Rattle.post.specs.Ride.{after as offered}
+use Rattle.post.specs.Ride.{Allowed, Standing, missed-taken, missed-exactly, missed-refused, ride-enrolled, ride-stands, ride-credits, ride-paid, ride-spent, ride-settles, after as offered}
 
 -- the card: started with the seed and run, round n + 1 with the out buffer `outs n`
 module _ (function k s : ℕ) (seed lent : List ℕ) (given : Given function k s seed lent)

@@ -8,13 +8,6 @@ use lib.Seq.{getD-take, getD-drop, drop-at, length-take-le}
 use Rattle.lists.specs.Values.{values, values-front, values-take}
 use Rattle.lists.specs.Writing.{over, over-length, Writing, writing-next}
 
--- ---- from another list
-
-pub copy-next : (from old now : List ℕ) (i : ℕ) → length from ≤ length old → i < length from → Writing (over from old) old now i
-    → Writing (over from old) old (set now i (getD from i 0)) (i + 1)
-copy-next from old now i h l w =
-    writing-next (over from old) old now i (getD from i 0) (over-length from old h) (omega arith) w (sym (List·getD-append from (drop (length from) old) 0 i l))
-
 -- ---- from behind, in one list
 
 -- what is not yet written is as it was

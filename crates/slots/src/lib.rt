@@ -18,6 +18,7 @@ use pebbling::hashes::held_after;
 use pebbling::powers::bits;
 use pebbling::powers::power;
 use pebbling::rounds_left;
+use records::copy;
 
 // The bytes read of the old slots and written of the new ones, and how often f was applied. The count stands between the two
 // lengths: side by side they would be added as one vector, and that has to wait for both to be stored.
@@ -25,16 +26,6 @@ pub struct Moved {
     pub read: usize,
     pub hashes: u32,
     pub written: usize,
-}
-
-// Writes `from` over the front of `to`.
-pub fn copy(from: &[u8], to: &mut [u8])
-    requires { ⌜ length (now from) ≤ length (now to) ⌝ }
-    ensures { λ _. ⌜ now (to .exit) ≡ over (now (from .entry)) (now (to .entry)) ⌝ }
-{
-    for i in 0..from.len() {
-        to[i] = from[i];
-    }
 }
 
 // Writes the second w bytes over the first.

@@ -16,22 +16,43 @@ enum-known-found : tie.Need-enum-known-found
 enum-known-found c = search needs
 
 add-paid : tie.Need-add-paid
-add-paid c = omega (arith, credit-fits (c .before .before .before .before .before .before .before .before .args .head) (c .before .before .before .before .before .before .before .before .args .post .now) (c .before .before .before .before .before .before .before .before .args .value .now) (c .before .before .before .before .before .before .before .before .args .gap) (c .before .before .before .before .before .before .before .before .pre) _ (c .before .before .before .before .seek .ensures) _ (c .before .before .found .given .1))
+add-paid c =
+    let start = c .before .before .before .before .before .before .before .before in
+    let seek = c .before .before .before .before .seek in
+    let found = c .before .before .found in
+    let fits = credit-fits (start .args .head) (start .args .post .now) (start .args .value .now) (start .args .gap)
+    (start .pre) _ (seek .ensures) _ (found .given .1) in
+    omega arith
 
 put-requires : tie.Need-put-requires
-put-requires c κs = credit-asks (c .before .before .before .before .before .before .before .before .before .args .head) (c .before .before .before .before .before .before .before .before .before .args .post .now) (c .before .before .before .before .before .before .before .before .before .args .value .now) (c .before .before .before .before .before .before .before .before .before .args .gap) (c .before .before .before .before .before .before .before .before .before .pre) _ (c .before .before .before .before .before .seek .ensures) _ (c .before .before .before .found .given .1) _ refl
+put-requires c κs =
+    let start = c .before .before .before .before .before .before .before .before .before in
+    let seek = c .before .before .before .before .before .seek in
+    let found = c .before .before .before .found in
+    credit-asks (start .args .head) (start .args .post .now) (start .args .value .now) (start .args .gap) (start .pre)
+    _ (seek .ensures) _ (found .given .1) _ refl
 
 same-length : tie.Need-same-length
 same-length c = search needs
 
 returns : tie.Need-returns
-returns c = credit-none (c .before .before .before .before .before .before .args .head) (c .before .before .before .before .before .before .args .post .now) (c .before .before .before .before .before .before .args .value .now) (c .before .before .before .before .before .before .args .gap) (c .before .before .before .before .before .before .pre) _ (c .before .before .seek .ensures) (c .enum-told .given .1)
+returns c =
+    let start = c .before .before .before .before .before .before in
+    let seek = c .before .before .seek in
+    credit-none (start .args .head) (start .args .post .now) (start .args .value .now) (start .args .gap) (start .pre)
+    _ (seek .ensures) (c .enum-told .given .1)
 
 same-length-2 : tie.Need-same-length-2
 same-length-2 c = search needs
 
 returns-2 : tie.Need-returns-2
-returns-2 c = credit-done (c .before .before .before .before .before .before .before .before .before .before .before .before .args .head) (c .before .before .before .before .before .before .before .before .before .before .before .before .args .post .now) (c .before .before .before .before .before .before .before .before .before .before .before .before .args .value .now) (c .before .before .before .before .before .before .before .before .before .before .before .before .args .gap) (c .before .before .before .before .before .before .before .before .before .before .before .before .pre) _ (c .before .before .before .before .before .before .before .before .seek .ensures) _ (c .before .before .before .before .before .before .found .given .1) _ (c .before .before .put .ensures)
+returns-2 c =
+    let start = c .before .before .before .before .before .before .before .before .before .before .before .before in
+    let seek = c .before .before .before .before .before .before .before .before .seek in
+    let found = c .before .before .before .before .before .before .found in
+    let put = c .before .before .put in
+    credit-done (start .args .head) (start .args .post .now) (start .args .value .now) (start .args .gap) (start .pre)
+    _ (seek .ensures) _ (found .given .1) _ (put .ensures)
 
 pub credit-spec : {M : Type 1} → statement M
 credit-spec =

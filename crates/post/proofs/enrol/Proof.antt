@@ -16,19 +16,28 @@ enum-known-judged-2 : tie.Need-enum-known-judged-2
 enum-known-judged-2 c = search needs
 
 lay-requires : tie.Need-lay-requires
-lay-requires c κs = enrollable _ _ _ _ (sym (c .before .before .before .before .judge-enrol .ensures) ∙ c .before .before .judged2 .given .1) .1
+lay-requires c κs =
+    let judge-enrol = c .before .before .before .before .judge-enrol in
+    let judged2 = c .before .before .judged2 in
+    enrollable _ _ _ _ (sym (judge-enrol .ensures) ∙ judged2 .given .1) .1
 
 same-length : tie.Need-same-length
 same-length c = search needs
 
 returns : tie.Need-returns
-returns c = enrolled-refused _ _ _ _ _ (sym (c .before .before .before .judge-enrol .ensures) ∙ c .before .judged .given .1)
+returns c =
+    let judge-enrol = c .before .before .before .judge-enrol in
+    enrolled-refused _ _ _ _ _ (sym (judge-enrol .ensures) ∙ c .before .judged .given .1)
 
 same-length-2 : tie.Need-same-length-2
 same-length-2 c = search needs
 
 returns-2 : tie.Need-returns-2
-returns-2 c = enrolled-done _ _ _ _ _ _ (sym (c .before .before .before .before .before .before .before .judge-enrol .ensures) ∙ c .before .before .before .before .before .judged2 .given .1) (c .before .before .lay .ensures)
+returns-2 c =
+    let judge-enrol = c .before .before .before .before .before .before .before .judge-enrol in
+    let judged2 = c .before .before .before .before .before .judged2 in
+    let lay = c .before .before .lay in
+    enrolled-done _ _ _ _ _ _ (sym (judge-enrol .ensures) ∙ judged2 .given .1) (lay .ensures)
 
 pub enrol-spec : {M : Type 1} → statement M
 enrol-spec =

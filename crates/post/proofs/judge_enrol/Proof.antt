@@ -18,10 +18,15 @@ room-for-requires : tie.Need-room-for-requires
 room-for-requires c κs = search needs
 
 returns : tie.Need-returns
-returns c = enrol-refused _ _ _ _ (c .before .before .before .check-numbers .ensures) _ (c .before .checked .given .1)
+returns c =
+    let check-numbers = c .before .before .before .check-numbers in
+    enrol-refused _ _ _ _ (check-numbers .ensures) _ (c .before .checked .given .1)
 
 returns-2 : tie.Need-returns-2
-returns-2 c = c .room-for .ensures ∙ enrol-passed _ _ _ _ (c .before .before .before .before .check-numbers .ensures) _ (c .before .before .checked2 .given .1)
+returns-2 c =
+    let check-numbers = c .before .before .before .before .check-numbers in
+    let checked2 = c .before .before .checked2 in
+    c .room-for .ensures ∙ enrol-passed _ _ _ _ (check-numbers .ensures) _ (checked2 .given .1)
 
 pub judge-enrol-spec : {M : Type 1} → statement M
 judge-enrol-spec =

@@ -16,13 +16,20 @@ enum-known-checked-2 : tie.Need-enum-known-checked-2
 enum-known-checked-2 c = search needs
 
 settle-ready-requires : tie.Need-settle-ready-requires
-settle-ready-requires c κs = numbers-small _ _ (sym (c .before .before .before .check-numbers .ensures) ∙ c .before .checked2 .given .1)
+settle-ready-requires c κs =
+    let check-numbers = c .before .before .before .check-numbers in
+    numbers-small _ _ (sym (check-numbers .ensures) ∙ c .before .checked2 .given .1)
 
 returns : tie.Need-returns
-returns c = settle-refused _ _ _ _ (c .before .before .before .check-numbers .ensures) _ (c .before .checked .given .1)
+returns c =
+    let check-numbers = c .before .before .before .check-numbers in
+    settle-refused _ _ _ _ (check-numbers .ensures) _ (c .before .checked .given .1)
 
 returns-2 : tie.Need-returns-2
-returns-2 c = c .settle-ready .ensures ∙ settle-passed _ _ _ _ (c .before .before .before .before .check-numbers .ensures) _ (c .before .before .checked2 .given .1)
+returns-2 c =
+    let check-numbers = c .before .before .before .before .check-numbers in
+    let checked2 = c .before .before .checked2 in
+    c .settle-ready .ensures ∙ settle-passed _ _ _ _ (check-numbers .ensures) _ (checked2 .given .1)
 
 pub judge-settle-spec : {M : Type 1} → statement M
 judge-settle-spec =

@@ -15,16 +15,27 @@ part-copy-end : tie.Need-part-copy-end
 part-copy-end c = search needs
 
 copy-requires : tie.Need-copy-requires
-copy-requires c κs = anchor-part (c .before .before .before .args .head) (c .before .before .before .args .anchor .now) (c .before .before .before .args .post .now) (c .before .before .before .pre)
+copy-requires c κs =
+    let start = c .before .before .before in
+    anchor-part (start .args .head) (start .args .anchor .now) (start .args .post .now) (start .pre)
 
 put-requires : tie.Need-put-requires
-put-requires c κs = lay-asks (c .before .before .before .before .before .before .before .args .head) (c .before .before .before .before .before .before .before .args .anchor .now) (c .before .before .before .before .before .before .before .args .post .now) (c .before .before .before .before .before .before .before .pre) _ _ refl (c .before .before .before .copy .ensures)
+put-requires c κs =
+    let start = c .before .before .before .before .before .before .before in
+    let copy = c .before .before .before .copy in
+    lay-asks (start .args .head) (start .args .anchor .now) (start .args .post .now) (start .pre) _ _ refl
+    (copy .ensures)
 
 same-length : tie.Need-same-length
 same-length c = search needs
 
 returns : tie.Need-returns
-returns c = laid (c .before .before .before .before .before .before .before .before .before .before .args .head) (c .before .before .before .before .before .before .before .before .before .before .args .anchor .now) (c .before .before .before .before .before .before .before .before .before .before .args .post .now) (c .before .before .before .before .before .before .before .before .before .before .pre) _ _ refl (c .before .before .before .before .before .before .copy .ensures) _ (c .before .before .put .ensures)
+returns c =
+    let start = c .before .before .before .before .before .before .before .before .before .before in
+    let copy = c .before .before .before .before .before .before .copy in
+    let put = c .before .before .put in
+    laid (start .args .head) (start .args .anchor .now) (start .args .post .now) (start .pre) _ _ refl (copy .ensures)
+    _ (put .ensures)
 
 pub lay-spec : {M : Type 1} → statement M
 lay-spec =

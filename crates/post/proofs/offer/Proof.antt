@@ -16,7 +16,9 @@ enum-known-inspected-2 : tie.Need-enum-known-inspected-2
 enum-known-inspected-2 c = search needs
 
 ready-requires : tie.Need-ready-requires
-ready-requires c κs = sound _ _ (sym (c .before .before .before .inspect .ensures) ∙ c .before .inspected2 .given .1) .1 .numbered .small
+ready-requires c κs =
+    let inspect = c .before .before .before .inspect in
+    sound _ _ (sym (inspect .ensures) ∙ c .before .inspected2 .given .1) .1 .numbered .small
 
 enum-known-judged : tie.Need-enum-known-judged
 enum-known-judged c = search needs
@@ -25,25 +27,46 @@ enum-known-judged-2 : tie.Need-enum-known-judged-2
 enum-known-judged-2 c = search needs
 
 credit-requires : tie.Need-credit-requires
-credit-requires c κs = searchable _ _ (c .before .before .before .before .before .before .before .before .before .before .before .before .args .gap) _ (judged-passed _ _ _ _ (c .before .before .before .before .before .before .before .before .inspect .ensures) _ (c .before .before .before .before .before .before .inspected2 .given .1) _ (c .before .before .before .before .ready .ensures) _ (c .before .before .judged2 .given .1)) .1
+credit-requires c κs =
+    let start = c .before .before .before .before .before .before .before .before .before .before .before .before in
+    let inspect = c .before .before .before .before .before .before .before .before .inspect in
+    let inspected2 = c .before .before .before .before .before .before .inspected2 in
+    let ready = c .before .before .before .before .ready in
+    let judged2 = c .before .before .judged2 in
+    searchable _ _ (start .args .gap) _
+    (judged-passed _ _ _ _ (inspect .ensures) _ (inspected2 .given .1) _ (ready .ensures) _ (judged2 .given .1)) .1
 
 same-length : tie.Need-same-length
 same-length c = search needs
 
 returns : tie.Need-returns
-returns c = offered-refused _ _ _ _ (c .before .before .before .inspect .ensures) _ (c .before .inspected .given .1)
+returns c =
+    let inspect = c .before .before .before .inspect in
+    offered-refused _ _ _ _ (inspect .ensures) _ (c .before .inspected .given .1)
 
 same-length-2 : tie.Need-same-length-2
 same-length-2 c = search needs
 
 returns-2 : tie.Need-returns-2
-returns-2 c = judged-refused _ _ _ _ (c .before .before .before .before .before .before .before .inspect .ensures) _ (c .before .before .before .before .before .inspected2 .given .1) _ (c .before .before .before .ready .ensures) _ (c .before .judged .given .1)
+returns-2 c =
+    let inspect = c .before .before .before .before .before .before .before .inspect in
+    let inspected2 = c .before .before .before .before .before .inspected2 in
+    let ready = c .before .before .before .ready in
+    judged-refused _ _ _ _ (inspect .ensures) _ (inspected2 .given .1) _ (ready .ensures) _
+    (c .before .judged .given .1)
 
 same-length-3 : tie.Need-same-length-3
 same-length-3 c = search needs
 
 returns-3 : tie.Need-returns-3
-returns-3 c = offered-searched _ _ _ _ (c .before .before .before .before .before .before .before .before .before .before .before .inspect .ensures) _ (c .before .before .before .before .before .before .before .before .before .inspected2 .given .1) _ (c .before .before .before .before .before .before .before .ready .ensures) _ (c .before .before .before .before .before .judged2 .given .1) _ _ (c .before .before .credit .ensures)
+returns-3 c =
+    let inspect = c .before .before .before .before .before .before .before .before .before .before .before .inspect in
+    let inspected2 = c .before .before .before .before .before .before .before .before .before .inspected2 in
+    let ready = c .before .before .before .before .before .before .before .ready in
+    let judged2 = c .before .before .before .before .before .judged2 in
+    let credit = c .before .before .credit in
+    offered-searched _ _ _ _ (inspect .ensures) _ (inspected2 .given .1) _ (ready .ensures) _ (judged2 .given .1) _ _
+    (credit .ensures)
 
 pub offer-spec : {M : Type 1} → statement M
 offer-spec =

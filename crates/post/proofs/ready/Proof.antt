@@ -14,16 +14,39 @@ width-requires : tie.Need-width-requires
 width-requires c κs = search needs
 
 returns : tie.Need-returns
-returns c = ready-gap (c .before .before .before .before .before .before .args .value .now) (c .before .before .before .before .before .before .args .gap) (c .before .before .before .before .before .before .args .head) _ (c .before .before .before .before .gap-strange .ensures) (c .if1 .taken)
+returns c =
+    let start = c .before .before .before .before .before .before in
+    let gap-strange = c .before .before .before .before .gap-strange in
+    ready-gap (start .args .value .now) (start .args .gap) (start .args .head) _ (gap-strange .ensures)
+    (c .if1 .taken)
 
 returns-2 : tie.Need-returns-2
-returns-2 c = ready-spent (c .before .before .before .before .before .before .before .args .value .now) (c .before .before .before .before .before .before .before .args .gap) (c .before .before .before .before .before .before .before .args .head) _ (c .before .before .before .before .before .gap-strange .ensures) (c .before .if1 .left) _ (c .before .before .before .before .power .ensures) (c .if2 .taken)
+returns-2 c =
+    let start = c .before .before .before .before .before .before .before in
+    let gap-strange = c .before .before .before .before .before .gap-strange in
+    let power = c .before .before .before .before .power in
+    ready-spent (start .args .value .now) (start .args .gap) (start .args .head) _ (gap-strange .ensures)
+    (c .before .if1 .left) _ (power .ensures) (c .if2 .taken)
 
 returns-3 : tie.Need-returns-3
-returns-3 c = ready-strange (c .before .before .before .before .before .before .before .before .args .value .now) (c .before .before .before .before .before .before .before .before .args .gap) (c .before .before .before .before .before .before .before .before .args .head) _ (c .before .before .before .before .before .before .gap-strange .ensures) (c .before .before .if1 .left) _ (c .before .before .before .before .before .power .ensures) (c .before .if2 .left) _ (c .before .before .before .width .ensures) (c .if3 .taken)
+returns-3 c =
+    let start = c .before .before .before .before .before .before .before .before in
+    let gap-strange = c .before .before .before .before .before .before .gap-strange in
+    let power = c .before .before .before .before .before .power in
+    let width = c .before .before .before .width in
+    let if1 = c .before .before .if1 in
+    ready-strange (start .args .value .now) (start .args .gap) (start .args .head) _ (gap-strange .ensures)
+    (if1 .left) _ (power .ensures) (c .before .if2 .left) _ (width .ensures) (c .if3 .taken)
 
 returns-4 : tie.Need-returns-4
-returns-4 c = ready-all (c .before .before .before .before .before .before .before .before .args .value .now) (c .before .before .before .before .before .before .before .before .args .gap) (c .before .before .before .before .before .before .before .before .args .head) _ (c .before .before .before .before .before .before .gap-strange .ensures) (c .before .before .if1 .left) _ (c .before .before .before .before .before .power .ensures) (c .before .if2 .left) _ (c .before .before .before .width .ensures) (c .if3 .left)
+returns-4 c =
+    let start = c .before .before .before .before .before .before .before .before in
+    let gap-strange = c .before .before .before .before .before .before .gap-strange in
+    let power = c .before .before .before .before .before .power in
+    let width = c .before .before .before .width in
+    let if1 = c .before .before .if1 in
+    ready-all (start .args .value .now) (start .args .gap) (start .args .head) _ (gap-strange .ensures) (if1 .left) _
+    (power .ensures) (c .before .if2 .left) _ (width .ensures) (c .if3 .left)
 
 pub ready-spec : {M : Type 1} → statement M
 ready-spec =

@@ -15,10 +15,14 @@ width-requires : tie.Need-width-requires
 width-requires c κs = search needs
 
 add-from : tie.Need-add-from
-add-from c = omega (arith, fields-within (c .before .before .before .args .head) _ (c .width .ensures))
+add-from c =
+    let start = c .before .before .before in
+    omega (arith, fields-within (start .args .head) _ (c .width .ensures))
 
 add-end : tie.Need-add-end
-add-end c = omega (arith, fields-within (c .before .before .before .args .head) _ (c .width .ensures))
+add-end c =
+    let start = c .before .before .before in
+    omega (arith, fields-within (start .args .head) _ (c .width .ensures))
 
 limit-requires : tie.Need-limit-requires
 limit-requires c κs = search needs
@@ -27,7 +31,9 @@ slice-aggregate-copy : tie.Need-slice-aggregate-copy
 slice-aggregate-copy c = search needs
 
 copy-requires : tie.Need-copy-requires
-copy-requires c κs = omega (arith, width-small (chainOf (c .before .before .before .before .before .args .head)), c .before .before .before .before .before .pre .wide)
+copy-requires c κs =
+    let start = c .before .before .before .before .before in
+    omega (arith, width-small (chainOf (start .args .head)), start .pre .wide)
 
 sub-search : tie.Need-sub-search
 sub-search c = search needs
@@ -36,19 +42,44 @@ part-search-start : tie.Need-part-search-start
 part-search-start c = search needs
 
 part-search-end : tie.Need-part-search-end
-part-search-end c = omega (arith, fields-within (c .before .before .before .before .before .before .before .args .head) _ (c .before .before .before .before .width .ensures), c .before .before .before .before .before .before .before .pre .sound .long)
+part-search-end c =
+    let start = c .before .before .before .before .before .before .before in
+    let width = c .before .before .before .before .width in
+    omega (arith, fields-within (start .args .head) _ (width .ensures), start .pre .sound .long)
 
 array-borrow-prefix-stepped : tie.Need-array-borrow-prefix-stepped
-array-borrow-prefix-stepped c = copy-within (chainOf (c .before .before .before .before .before .before .before .before .args .head)) (c .before .before .before .before .before .before .before .before .args .value .now) (c .before .before .before .before .before .before .before .before .pre .wide) _ (c .before .before .before .before .before .width .ensures) _ (c .before .before .copy .ensures)
+array-borrow-prefix-stepped c =
+    let start = c .before .before .before .before .before .before .before .before in
+    let width = c .before .before .before .before .before .width in
+    let copy = c .before .before .copy in
+    copy-within (chainOf (start .args .head)) (start .args .value .now) (start .pre .wide) _ (width .ensures) _
+    (copy .ensures)
 
 slice-aggregate-search : tie.Need-slice-aggregate-search
-slice-aggregate-search c = sym (length-take-le _ _ (copy-within (chainOf (c .before .before .before .before .before .before .before .before .before .args .head)) (c .before .before .before .before .before .before .before .before .before .args .value .now) (c .before .before .before .before .before .before .before .before .before .pre .wide) _ (c .before .before .before .before .before .before .width .ensures) _ (c .before .before .before .copy .ensures)))
+slice-aggregate-search c =
+    let start = c .before .before .before .before .before .before .before .before .before in
+    let width = c .before .before .before .before .before .before .width in
+    let copy = c .before .before .before .copy in
+    sym
+    (length-take-le _ _ (copy-within (chainOf (start .args .head)) (start .args .value .now) (start .pre .wide) _ (width .ensures) _ (copy .ensures)))
 
 search-requires : tie.Need-search-requires
-search-requires c κs = (walkable (c .before .before .before .before .before .before .before .before .before .args .head) (c .before .before .before .before .before .before .before .before .before .args .value .now) (c .before .before .before .before .before .before .before .before .before .pre .sound .numbered) (c .before .before .before .before .before .before .before .before .before .pre .wide) .known, copy-wide (chainOf (c .before .before .before .before .before .before .before .before .before .args .head)) (c .before .before .before .before .before .before .before .before .before .args .value .now) (c .before .before .before .before .before .before .before .before .before .pre .wide) _ (c .before .before .before .before .before .before .width .ensures) _ (c .before .before .before .copy .ensures))
+search-requires c κs =
+    let start = c .before .before .before .before .before .before .before .before .before in
+    let width = c .before .before .before .before .before .before .width in
+    let copy = c .before .before .before .copy in (
+      walkable (start .args .head) (start .args .value .now) (start .pre .sound .numbered) (start .pre .wide) .known,
+      copy-wide (chainOf (start .args .head)) (start .args .value .now) (start .pre .wide) _ (width .ensures) _ (copy .ensures),
+    )
 
 returns : tie.Need-returns
-returns c = c .before .search .ensures ∙ sought _ _ _ (c .before .before .before .before .before .before .before .before .before .before .before .args .head) _ _ _ (c .before .before .before .before .before .before .before .before .width .ensures) (c .before .before .before .before .before .before .before .limit .ensures) (copy-is (chainOf (c .before .before .before .before .before .before .before .before .before .before .before .args .head)) (c .before .before .before .before .before .before .before .before .before .before .before .args .value .now) (c .before .before .before .before .before .before .before .before .before .before .before .pre .wide) _ (c .before .before .before .before .before .before .before .before .width .ensures) _ (c .before .before .before .before .before .copy .ensures))
+returns c =
+    let start = c .before .before .before .before .before .before .before .before .before .before .before in
+    let width = c .before .before .before .before .before .before .before .before .width in
+    let limit = c .before .before .before .before .before .before .before .limit in
+    let copy = c .before .before .before .before .before .copy in
+    c .before .search .ensures ∙ sought _ _ _ (start .args .head) _ _ _ (width .ensures) (limit .ensures)
+    (copy-is (chainOf (start .args .head)) (start .args .value .now) (start .pre .wide) _ (width .ensures) _ (copy .ensures))
 
 pub seek-spec : {M : Type 1} → statement M
 seek-spec =

@@ -16,16 +16,28 @@ enum-known-judged-2 : tie.Need-enum-known-judged-2
 enum-known-judged-2 c = search needs
 
 arrives-requires : tie.Need-arrives-requires
-arrives-requires c κs = settling _ _ _ _ (sym (c .before .before .before .judge-settle .ensures) ∙ c .before .judged2 .given .1) .1
+arrives-requires c κs =
+    let judge-settle = c .before .before .before .judge-settle in
+    settling _ _ _ _ (sym (judge-settle .ensures) ∙ c .before .judged2 .given .1) .1
 
 returns : tie.Need-returns
-returns c = settled-refused _ _ _ _ _ _ (c .before .before .before .judge-settle .ensures) _ (c .before .judged .given .1)
+returns c =
+    let judge-settle = c .before .before .before .judge-settle in
+    settled-refused _ _ _ _ _ _ (judge-settle .ensures) _ (c .before .judged .given .1)
 
 returns-2 : tie.Need-returns-2
-returns-2 c = settled-yes _ _ _ _ _ _ (c .before .before .before .before .before .judge-settle .ensures) _ (c .before .before .before .judged2 .given .1) _ (c .before .arrives .ensures) (c .if1 .taken)
+returns-2 c =
+    let judge-settle = c .before .before .before .before .before .judge-settle in
+    let judged2 = c .before .before .before .judged2 in
+    settled-yes _ _ _ _ _ _ (judge-settle .ensures) _ (judged2 .given .1) _ (c .before .arrives .ensures)
+    (c .if1 .taken)
 
 returns-3 : tie.Need-returns-3
-returns-3 c = settled-no _ _ _ _ _ _ (c .before .before .before .before .before .judge-settle .ensures) _ (c .before .before .before .judged2 .given .1) _ (c .before .arrives .ensures) (c .if1 .left)
+returns-3 c =
+    let judge-settle = c .before .before .before .before .before .judge-settle in
+    let judged2 = c .before .before .before .judged2 in
+    settled-no _ _ _ _ _ _ (judge-settle .ensures) _ (judged2 .given .1) _ (c .before .arrives .ensures)
+    (c .if1 .left)
 
 pub settle-spec : {M : Type 1} → statement M
 settle-spec =

@@ -8,10 +8,16 @@ known-requires : tie.Need-known-requires
 known-requires c κs = search needs
 
 returns : tie.Need-returns
-returns c = numbers-2 _ _ (c .before .before .before .known .ensures) (c .before .before .if1 .taken) (c .if2 .taken)
+returns c =
+    let known = c .before .before .before .known in
+    let if1 = c .before .before .if1 in
+    numbers-2 _ _ (known .ensures) (if1 .taken) (c .if2 .taken)
 
 returns-2 : tie.Need-returns-2
-returns-2 c = numbers-all _ _ (c .before .before .before .known .ensures) (c .before .before .if1 .taken) (c .if2 .left)
+returns-2 c =
+    let known = c .before .before .before .known in
+    let if1 = c .before .before .if1 in
+    numbers-all _ _ (known .ensures) (if1 .taken) (c .if2 .left)
 
 returns-3 : tie.Need-returns-3
 returns-3 c = numbers-1 _ _ (c .before .known .ensures) (c .if1 .left)

@@ -25,16 +25,36 @@ enum-known-checked-2 : tie.Need-enum-known-checked-2
 enum-known-checked-2 c = search needs
 
 inspect-paid-requires : tie.Need-inspect-paid-requires
-inspect-paid-requires c κs = (c .before .before .before .before .before .before .before .if1 .left, numbers-small _ _ (sym (c .before .before .before .check-numbers .ensures) ∙ c .before .checked2 .given .1))
+inspect-paid-requires c κs =
+    let if1 = c .before .before .before .before .before .before .before .if1 in
+    let check-numbers = c .before .before .before .check-numbers in
+    (if1 .left, numbers-small _ _ (sym (check-numbers .ensures) ∙ c .before .checked2 .given .1))
 
 returns-2 : tie.Need-returns-2
-returns-2 c = head-refused _ (c .before .before .before .before .before .before .before .if1 .left) _ (c .before .before .before .before .before .before .marked .ensures) (c .before .before .before .before .before .if2 .taken) _ (c .before .before .before .before .read-head .ensures) _ (c .before .before .before .check-numbers .ensures) _ (c .before .checked .given .1)
+returns-2 c =
+    let if1 = c .before .before .before .before .before .before .before .if1 in
+    let marked = c .before .before .before .before .before .before .marked in
+    let if2 = c .before .before .before .before .before .if2 in
+    let read-head = c .before .before .before .before .read-head in
+    let check-numbers = c .before .before .before .check-numbers in
+    head-refused _ (if1 .left) _ (marked .ensures) (if2 .taken) _ (read-head .ensures) _ (check-numbers .ensures) _
+    (c .before .checked .given .1)
 
 returns-3 : tie.Need-returns-3
-returns-3 c = c .inspect-paid .ensures ∙ head-passed _ (c .before .before .before .before .before .before .before .before .if1 .left) _ (c .before .before .before .before .before .before .before .marked .ensures) (c .before .before .before .before .before .before .if2 .taken) _ (c .before .before .before .before .before .read-head .ensures) _ (c .before .before .before .before .check-numbers .ensures) _ (c .before .before .checked2 .given .1)
+returns-3 c =
+    let if1 = c .before .before .before .before .before .before .before .before .if1 in
+    let marked = c .before .before .before .before .before .before .before .marked in
+    let if2 = c .before .before .before .before .before .before .if2 in
+    let read-head = c .before .before .before .before .before .read-head in
+    let check-numbers = c .before .before .before .before .check-numbers in
+    let checked2 = c .before .before .checked2 in
+    c .inspect-paid .ensures ∙ head-passed _ (if1 .left) _ (marked .ensures) (if2 .taken) _ (read-head .ensures) _
+    (check-numbers .ensures) _ (checked2 .given .1)
 
 returns-4 : tie.Need-returns-4
-returns-4 c = record-strange _ (c .before .before .if1 .left) _ (c .before .marked .ensures) (c .if2 .left)
+returns-4 c =
+    let if1 = c .before .before .if1 in
+    record-strange _ (if1 .left) _ (c .before .marked .ensures) (c .if2 .left)
 
 pub inspect-spec : {M : Type 1} → statement M
 inspect-spec =

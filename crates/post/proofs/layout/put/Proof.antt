@@ -1,4 +1,5 @@
--- `post::layout::put` meets its contract: the head is written over the front, and the value behind the anchor, which stays. Assumes nothing.
+-- `post::layout::put` meets its contract: the head is written over the front, and the value behind the
+-- anchor, which stays. Assumes nothing.
 use native.Mathlib.Omega.{arith}
 use borrow.Author.Needs.{needs}
 use Rattle.post.proofs.ReadLaws.{held-room, held-part, put-both}
@@ -21,22 +22,46 @@ add-from : tie.Need-add-from
 add-from c = search needs
 
 sub-copy : tie.Need-sub-copy
-sub-copy c = omega (arith, held-room (c .before .before .before .before .before .before .before .before .before .args .head) (c .before .before .before .before .before .before .before .before .before .args .held .now) (c .before .before .before .before .before .before .before .before .before .args .post .now) (c .before .before .before .before .before .before .before .before .before .pre) _ _ (c .before .before .before .before .before .before .head-bytes .ensures) (c .before .before .before .copy .ensures) _ (c .width .ensures))
+sub-copy c =
+    let start = c .before .before .before .before .before .before .before .before .before in
+    let head-bytes = c .before .before .before .before .before .before .head-bytes in
+    let copy = c .before .before .before .copy in
+    let room = held-room (start .args .head) (start .args .held .now) (start .args .post .now) (start .pre) _ _
+    (head-bytes .ensures) (copy .ensures) _ (c .width .ensures) in
+    omega arith
 
 part-copy-start : tie.Need-part-copy-start
-part-copy-start c = omega (arith, held-room (c .before .before .before .before .before .before .before .before .before .args .head) (c .before .before .before .before .before .before .before .before .before .args .held .now) (c .before .before .before .before .before .before .before .before .before .args .post .now) (c .before .before .before .before .before .before .before .before .before .pre) _ _ (c .before .before .before .before .before .before .head-bytes .ensures) (c .before .before .before .copy .ensures) _ (c .width .ensures))
+part-copy-start c =
+    let start = c .before .before .before .before .before .before .before .before .before in
+    let head-bytes = c .before .before .before .before .before .before .head-bytes in
+    let copy = c .before .before .before .copy in
+    let room = held-room (start .args .head) (start .args .held .now) (start .args .post .now) (start .pre) _ _
+    (head-bytes .ensures) (copy .ensures) _ (c .width .ensures) in
+    omega arith
 
 part-copy-end : tie.Need-part-copy-end
 part-copy-end c = search needs
 
 copy-requires-2 : tie.Need-copy-requires-2
-copy-requires-2 c κs = held-part (c .before .before .before .before .before .before .before .before .before .before .args .head) (c .before .before .before .before .before .before .before .before .before .before .args .held .now) (c .before .before .before .before .before .before .before .before .before .before .args .post .now) (c .before .before .before .before .before .before .before .before .before .before .pre) _ _ (c .before .before .before .before .before .before .before .head-bytes .ensures) (c .before .before .before .before .copy .ensures) _ (c .before .width .ensures)
+copy-requires-2 c κs =
+    let start = c .before .before .before .before .before .before .before .before .before .before in
+    let head-bytes = c .before .before .before .before .before .before .before .head-bytes in
+    let copy = c .before .before .before .before .copy in
+    held-part (start .args .head) (start .args .held .now) (start .args .post .now) (start .pre) _ _
+    (head-bytes .ensures) (copy .ensures) _ (c .before .width .ensures)
 
 same-length : tie.Need-same-length
 same-length c = search needs
 
 returns : tie.Need-returns
-returns c = put-both (c .before .before .before .before .before .before .before .before .before .before .before .before .before .args .head) (c .before .before .before .before .before .before .before .before .before .before .before .before .before .args .held .now) (c .before .before .before .before .before .before .before .before .before .before .before .before .before .args .post .now) (c .before .before .before .before .before .before .before .before .before .before .before .before .before .pre) _ _ (c .before .before .before .before .before .before .before .before .before .before .head-bytes .ensures) (c .before .before .before .before .before .before .before .copy .ensures) _ (c .before .before .before .before .width .ensures) _ (c .before .before .copy2 .ensures)
+returns c =
+    let start = c .before .before .before .before .before .before .before .before .before .before .before .before .before in
+    let head-bytes = c .before .before .before .before .before .before .before .before .before .before .head-bytes in
+    let copy = c .before .before .before .before .before .before .before .copy in
+    let width = c .before .before .before .before .width in
+    let copy2 = c .before .before .copy2 in
+    put-both (start .args .head) (start .args .held .now) (start .args .post .now) (start .pre) _ _
+    (head-bytes .ensures) (copy .ensures) _ (width .ensures) _ (copy2 .ensures)
 
 pub put-spec : {M : Type 1} → statement M
 put-spec =

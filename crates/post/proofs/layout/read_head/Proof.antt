@@ -31,7 +31,10 @@ word-requires c κs = search needs
 
 returns : tie.Need-returns
 unfolding headOf
-returns c = rw (c .before .before .before .before .wide .ensures .0, c .before .before .wide2 .ensures .0, c .word .ensures) refl
+returns c =
+    let wide = c .before .before .before .before .wide in
+    let wide2 = c .before .before .wide2 in
+    rw (wide .ensures .0, wide2 .ensures .0, c .word .ensures) refl
 
 pub read-head-spec : {M : Type 1} → statement M
 read-head-spec =

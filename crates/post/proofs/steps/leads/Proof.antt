@@ -17,7 +17,10 @@ same-length : tie.Need-same-length
 same-length c = search needs
 
 returns : tie.Need-returns
-returns c = c .same .ensures ∙ ap (λ (v : List ℕ). same v (c .before .before .before .before .before .before .before .before .args .to .now)) (c .before .before .before .before .walk .ensures)
+returns c =
+    let start = c .before .before .before .before .before .before .before .before in
+    let walk = c .before .before .before .before .walk in
+    c .same .ensures ∙ ap (λ (v : List ℕ). same v (start .args .to .now)) (walk .ensures)
 
 pub leads-spec : {M : Type 1} → statement M
 leads-spec = tie.close (tie.spec walk-requires same-requires same-length returns)

@@ -27,7 +27,10 @@ shared-slice-read-if2-2 : tie.Need-shared-slice-read-if2-2 Inv-loop μ-loop
 shared-slice-read-if2-2 c = omega arith
 
 returns-2 : tie.Need-returns-2 Inv-loop μ-loop
-returns-2 c = comparing-stops _ _ _ (c .before .before .before .before .loop .inv) (c .before .before .before .loop-test .taken) (c .if2 .taken)
+returns-2 c =
+    let turn = c .before .before .before .before .loop in
+    let test = c .before .before .before .loop-test in
+    comparing-stops _ _ _ (turn .inv) (test .taken) (c .if2 .taken)
 
 add-i : tie.Need-add-i Inv-loop μ-loop
 add-i c = search needs
@@ -36,7 +39,10 @@ loop-less : tie.Need-loop-less Inv-loop μ-loop
 loop-less c = omega arith
 
 loop-again : tie.Need-loop-again Inv-loop μ-loop
-loop-again c = comparing-next _ _ _ (c .before .before .before .before .loop .inv) (c .before .before .before .loop-test .taken) (c .if2 .left)
+loop-again c =
+    let turn = c .before .before .before .before .loop in
+    let test = c .before .before .before .loop-test in
+    comparing-next _ _ _ (turn .inv) (test .taken) (c .if2 .left)
 
 returns-3 : tie.Need-returns-3 Inv-loop μ-loop
 returns-3 c = compared _ _ _ (c .before .loop .inv) (c .loop-test .left)

@@ -1,4 +1,5 @@
--- `post::steps::search` meets its contract. The loop's invariant: the least of those looked at is found, and where one is found the search is at its end. Assumes nothing.
+-- `post::steps::search` meets its contract. The loop's invariant: the least of those looked at is found,
+-- and where one is found the search is at its end. Assumes nothing.
 use Prim.Native.Nat.{_-_}
 use mathlib.Core.Path.{sym, _∙_}
 use native.Mathlib.Omega.{arith}
@@ -17,7 +18,10 @@ loop-holds : tie.Need-loop-holds Inv-loop μ-loop
 loop-holds c = searching-none _ _ _ _ (c .before .before .pre .1)
 
 walk-requires : tie.Need-walk-requires Inv-loop μ-loop
-walk-requires c κs = (c .before .before .before .before .before .pre .0, c .before .before .loop .inv .walks .sized ∙ c .before .before .loop .inv .walks .wide)
+walk-requires c κs =
+    let start = c .before .before .before .before .before in
+    let turn = c .before .before .loop in
+    (start .pre .0, turn .inv .walks .sized ∙ turn .inv .walks .wide)
 
 add-g : tie.Need-add-g Inv-loop μ-loop
 add-g c = omega (arith, c .before .before .before .before .before .loop .inv .upto)
@@ -29,13 +33,23 @@ loop-less : tie.Need-loop-less Inv-loop μ-loop
 loop-less c = omega arith
 
 loop-again : tie.Need-loop-again Inv-loop μ-loop
-loop-again c = search-fits _ _ _ _ _ _ _ _ (c .before .before .before .before .before .before .before .before .loop .inv) (c .before .before .before .before .before .before .before .loop-test .taken) _ (c .before .before .before .before .before .walk .ensures) (sym (c .before .same .ensures) ∙ c .if1 .taken)
+loop-again c =
+    let turn = c .before .before .before .before .before .before .before .before .loop in
+    let test = c .before .before .before .before .before .before .before .loop-test in
+    let walk = c .before .before .before .before .before .walk in
+    search-fits _ _ _ _ _ _ _ _ (turn .inv) (test .taken) _ (walk .ensures)
+    (sym (c .before .same .ensures) ∙ c .if1 .taken)
 
 loop-less-2 : tie.Need-loop-less-2 Inv-loop μ-loop
 loop-less-2 c = omega arith
 
 loop-again-2 : tie.Need-loop-again-2 Inv-loop μ-loop
-loop-again-2 c = search-on _ _ _ _ _ _ _ _ (c .before .before .before .before .before .before .before .before .loop .inv) (c .before .before .before .before .before .before .before .loop-test .taken) _ (c .before .before .before .before .before .walk .ensures) (sym (c .before .same .ensures) ∙ c .if1 .left)
+loop-again-2 c =
+    let turn = c .before .before .before .before .before .before .before .before .loop in
+    let test = c .before .before .before .before .before .before .before .loop-test in
+    let walk = c .before .before .before .before .before .walk in
+    search-on _ _ _ _ _ _ _ _ (turn .inv) (test .taken) _ (walk .ensures)
+    (sym (c .before .same .ensures) ∙ c .if1 .left)
 
 same-length : tie.Need-same-length Inv-loop μ-loop
 same-length c = c .before .loop .inv .walks .sized

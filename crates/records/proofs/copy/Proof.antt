@@ -1,13 +1,13 @@
--- `slots::copy` meets its contract. The loop's invariant: the first i bytes are those of `from`, and the others are as they were. Assumes nothing.
+-- `records::copy` meets its contract. The loop's invariant: the first i bytes are those of `from`, and the others are as they were. Assumes nothing.
 use borrow.Author.Needs.{needs}
 use mathlib.Core.Path.{_≡_}
 use Prim.Native.Nat.{_≤_, _-_}
 use native.Mathlib.Omega.{arith}
 use lib.ListN.{length}
 use Rattle.lists.specs.Writing.{over, Writing, writing-none, writing-front}
-use Rattle.slots.proofs.Copying.{copy-next}
-use Rattle.slots.proofs.copy.Statement.{statement}
-use Rattle.slots.proofs.copy.Tie as tie
+use Rattle.records.proofs.Laws.{copy-next}
+use Rattle.records.proofs.copy.Statement.{statement}
+use Rattle.records.proofs.copy.Tie as tie
 
 abbrev Inv-loop : tie.InvT-loop
 Inv-loop from to₀ i₀ end to i = (i ≤ length from) × Writing (over from to₀) to₀ to i

@@ -1,9 +1,9 @@
--- `card::layout::word` meets its contract. Assumes nothing.
+-- `records::word` meets its contract. Assumes nothing.
 use native.Mathlib.Omega.{arith}
 use borrow.Author.Needs.{needs}
-use Rattle.card.proofs.ReadLaws.{word-number}
-use Rattle.card.proofs.layout.word.Statement.{statement}
-use Rattle.card.proofs.layout.word.Tie as tie
+use Rattle.records.proofs.Laws.{word-number}
+use Rattle.records.proofs.word.Statement.{statement}
+use Rattle.records.proofs.word.Tie as tie
 
 shared-slice-read-wide : tie.Need-shared-slice-read-wide
 shared-slice-read-wide c = search needs

@@ -1,11 +1,11 @@
--- `card::walk` meets its contract. The loop's invariant: after i steps the value is the chain's element i. Assumes nothing.
+-- `records::walk` meets its contract. The loop's invariant: after i steps the value is the chain's element i. Assumes nothing.
 use mathlib.Core.Path.{_∙_}
 use Prim.Native.Nat.{_-_, _≤_}
 use native.Mathlib.Omega.{arith}
 use borrow.Author.Needs.{needs}
-use Rattle.card.proofs.StartLaws.{Walking, walking-none, walking-next, walked}
-use Rattle.card.proofs.walk.Statement.{statement}
-use Rattle.card.proofs.walk.Tie as tie
+use Rattle.records.proofs.Laws.{Walking, walking-none, walking-next, walked}
+use Rattle.records.proofs.walk.Statement.{statement}
+use Rattle.records.proofs.walk.Tie as tie
 
 abbrev Inv-loop : tie.InvT-loop
 Inv-loop chain n value₀ i₀ value i = (i ≤ n) × Walking chain value₀ value i

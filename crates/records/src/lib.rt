@@ -1,0 +1,48 @@
+// What the card's and the post's records share: bytes copied, numbers of four bytes read, and steps along a chain.
+ghost use mathlib.Core.Path.{_≡_};
+ghost use Prim.Native.Nat.{_≤_};
+ghost use lib.Dec.{T};
+ghost use lib.ListN.{length};
+ghost use Rattle.lists.specs.Writing.{over};
+ghost use Rattle.oneway.specs.Step.{known, width, step};
+ghost use Rattle.pebbling.specs.Recursion.{chain as element};
+ghost use Rattle.records.specs.Numbers.{number};
+use oneway::Chain;
+
+// Writes `from` over the front of `to`.
+pub fn copy(from: &[u8], to: &mut [u8])
+    requires { ⌜ length (now from) ≤ length (now to) ⌝ }
+    ensures { λ _. ⌜ now (to .exit) ≡ over (now (from .entry)) (now (to .entry)) ⌝ }
+{
+    for i in 0..from.len() {
+        to[i] = from[i];
+    }
+}
+
+pub fn wide(x: u8) -> u32
+    ensures { λ n. ⌜ (n ≡ x) × (n ≤ 255) ⌝ }
+{
+    x as u32
+}
+
+// The number in four bytes, low byte first.
+pub fn word(bytes: &[u8]) -> u32
+    requires { ⌜ length (now bytes) ≡ 4 ⌝ }
+    ensures { λ n. ⌜ n ≡ number (now (bytes .entry)) ⌝ }
+{
+    let high = wide(bytes[2]) + 256 * wide(bytes[3]);
+    wide(bytes[0]) + 256 * (wide(bytes[1]) + 256 * high)
+}
+
+// n steps of the chain, in place.
+pub fn walk(chain: Chain, n: u32, value: &mut [u8])
+    requires { ⌜ T (known (chain .function)) ⌝ }
+    requires { ⌜ length (now value) ≡ width chain ⌝ }
+    ensures { λ _. ⌜ now (value .exit) ≡ element (step chain) (now (value .entry)) n ⌝ }
+{
+    let mut i: u32 = 0;
+    while i < n {
+        oneway::apply(chain, value);
+        i += 1;
+    }
+}
