@@ -19,6 +19,7 @@ pub fn copy(from: &[u8], to: &mut [u8])
     }
 }
 
+// A byte as a number.
 pub fn wide(x: u8) -> u32
     ensures { λ n. ⌜ (n ≡ x) × (n ≤ 255) ⌝ }
 {
