@@ -12,7 +12,7 @@ abbrev Inv-loop : tie.InvT-loop
 Inv-loop chain limit held value₀ found₀ end₀ g₀ value found end g = Searching chain limit held value₀ found end g value
 
 abbrev μ-loop : tie.MeasureT-loop
-μ-loop chain limit held value₀ found₀ end₀ g₀ value found end g = end - g
+μ-loop chain limit held value₀ found₀ end₀ g₀ value found end g = limit - g
 
 loop-holds : tie.Need-loop-holds Inv-loop μ-loop
 loop-holds c = searching-none _ _ _ _ (c .before .before .pre .1)
@@ -30,7 +30,7 @@ same-requires : tie.Need-same-requires Inv-loop μ-loop
 same-requires c κs = search needs
 
 loop-less : tie.Need-loop-less Inv-loop μ-loop
-loop-less c = omega arith
+loop-less c = omega (arith, c .before .before .before .before .before .before .before .before .loop .inv .upto)
 
 loop-again : tie.Need-loop-again Inv-loop μ-loop
 loop-again c =
@@ -41,7 +41,7 @@ loop-again c =
     (sym (c .before .same .ensures) ∙ c .if1 .taken)
 
 loop-less-2 : tie.Need-loop-less-2 Inv-loop μ-loop
-loop-less-2 c = omega arith
+loop-less-2 c = omega (arith, c .before .before .before .before .before .before .before .before .loop .inv .upto)
 
 loop-again-2 : tie.Need-loop-again-2 Inv-loop μ-loop
 loop-again-2 c =
