@@ -1,0 +1,57 @@
+-- Pieces written one behind another are one piece, and there is room for each where there is room for all. Assumes nothing.
+use mathlib.Core.Path.{_≡_, refl, sym, ap, _∙_}
+use mathlib.Core.List.{List, [], _∷_, _++_, append-assoc}
+use Prim.Native.Nat.{ℕ, suc, _+_, _-_, _≤_, _<_}
+use native.Mathlib.Nat.{add-zero}
+use native.Mathlib.Numerals.{add-one}
+use native.Mathlib.Omega.{arith}
+use lib.ListN.{length, take, drop, set, length-append, length-drop}
+use lib.Seq.{sets, length-sets, sets-eq, drop-drop}
+use borrow.Rule.Slice.PartMut.{putMid}
+use Rattle.lists.specs.Parts.{part-tail, put-tail}
+use Rattle.lists.specs.Writing.{over}
+use Rattle.pebbling.specs.Promises.{Written}
+
+sets-append : (l : List ℕ) (i : ℕ) (ps qs : List ℕ) → sets l i (ps ++ qs) ≡ sets (sets l i ps) (i + length ps) qs
+sets-append l i [] qs = rw (add-zero i) refl
+sets-append l i (p ∷ ps) qs = let e : i + suc (length ps) ≡ suc i + length ps = omega arith in rw e (sets-append (set l i p) (suc i) ps qs)
+
+-- the text keeps its length
+pub written-length : (a text text′ : List ℕ) (at end : ℕ) → Written a at text end text′ → length text′ ≡ length text
+written-length a text text′ at end w = ap length (w .holds) ∙ length-sets text at a
+
+pub written-as : (a b text text′ : List ℕ) (at end : ℕ) → a ≡ b → Written a at text end text′ → Written b at text end text′
+written-as a b text text′ at end e w = rw (← e) w
+
+-- nothing, and one byte
+pub nothing : (text : List ℕ) (at : ℕ) → Written [] at text at text
+nothing text at = record { ends = sym (add-zero at); holds = refl }
+
+pub byte : (b at : ℕ) (text : List ℕ) → Written (b ∷ []) at text (at + 1) (set text at b)
+byte b at text = record { ends = refl; holds = refl }
+
+module _ (a b text : List ℕ) (at : ℕ) where
+  pub first-fits : at + length (a ++ b) ≤ length text → at + length a ≤ length text
+  first-fits h = omega (arith, length-append a b)
+
+  module _ (text₁ : List ℕ) (mid : ℕ) (w : Written a at text mid text₁) where
+    pub next-fits : at + length (a ++ b) ≤ length text → mid + length b ≤ length text₁
+    next-fits h = omega (arith, w .ends, written-length a text text₁ at mid w, length-append a b)
+
+    pub both : (text₂ : List ℕ) (end : ℕ) → Written b mid text₁ end text₂ → Written (a ++ b) at text end text₂
+    both text₂ end v =
+        record {
+          ends = omega (arith, v .ends, w .ends, length-append a b);
+          holds = v .holds ∙ rw (w .ends, w .holds, sets-append text at a b) refl;
+        }
+
+-- a copy to the text's rest
+pub copied : (piece text part : List ℕ) (at : ℕ) → at + length piece ≤ length text → part ≡ over piece (take (length text - at) (drop at text))
+    → Written piece at text (at + length piece) (putMid at (length text - at) text part)
+copied piece text part at h e =
+    let d : drop (length piece) (drop at text) ≡ drop (at + length piece) text = drop-drop (length piece) at text in
+    let p : part ≡ piece ++ drop (at + length piece) text = e ∙ rw (part-tail at text, d) refl in
+    record {
+      ends = refl;
+      holds = put-tail at text part (omega arith) ∙ rw p (sym (sets-eq piece text at h ∙ append-assoc (take at text) piece (drop (at + length piece) text)));
+    }
