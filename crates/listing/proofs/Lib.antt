@@ -1,3 +1,4 @@
 pub mod WriteLaws
 pub mod TextLaws
 pub mod ReadLaws
+pub mod LineLaws

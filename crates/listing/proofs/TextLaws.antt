@@ -10,7 +10,7 @@ use lib.ListN.{length, set, length-append}
 use Rattle.pebbling.specs.Len.{lt-or-le}
 use Rattle.pebbling.specs.Promises.{Written}
 use Rattle.listing.specs.Text.{bytes, digit, decimalIn, decimal}
-use Rattle.listing.specs.Listing.{space, comma, nameOf, markBefore}
+use Rattle.listing.specs.Listing.{space, comma, nameOf, lineFor, markBefore}
 use Rattle.listing.proofs.WriteLaws.{byte, first-fits, next-fits, both, written-as}
 
 -- ---- the rule
@@ -114,7 +114,11 @@ short-in (suc f) n (suc d) h = go (short-in f (n / 10) d) (lt-or-le n 10)
     go ih (inl l) = rw (lt-ltb n 10 l) (omega arith)
     go ih (inr l) = rw (le-ltb n 10 l) (omega (arith, length-append (decimalIn f (n / 10)) (digit (n % 10) ∷ []), ih (omega arith)))
 
--- a number below 10000 has at most four
-pub decimal-short : (n : ℕ) → n < 10000 → length (decimal n) ≤ 4
+pub decimal-short : (n d : ℕ) → n < 10 ^ suc d → length (decimal n) ≤ suc d
 unfolding decimal
-decimal-short n h = short-in n n 3 h
+decimal-short n d h = short-in n n d h
+
+-- the name, a space, and two digits at most
+pub asked-short : (s k : ℕ) → k ≤ 10 → length (lineFor s k) ≤ 10
+unfolding lineFor
+asked-short s k h = omega (arith, length-append (nameOf s) (space ∷ decimal k), name-length s, decimal-short k 1 (omega arith))

@@ -6,7 +6,7 @@ use native.Mathlib.Nat.{add-zero}
 use native.Mathlib.Numerals.{add-one}
 use native.Mathlib.Omega.{arith}
 use lib.ListN.{length, take, drop, set, length-append, length-drop}
-use lib.Seq.{sets, length-sets, sets-eq, drop-drop}
+use lib.Seq.{sets, length-sets, sets-eq, drop-drop, take-append-seam}
 use borrow.Rule.Slice.PartMut.{putMid}
 use Rattle.lists.specs.Parts.{part-tail, put-tail}
 use Rattle.lists.specs.Writing.{over}
@@ -44,6 +44,48 @@ module _ (a b text : List ℕ) (at : ℕ) where
           ends = omega (arith, v .ends, w .ends, length-append a b);
           holds = v .holds ∙ rw (w .ends, w .holds, sets-append text at a b) refl;
         }
+
+    -- what is left of a piece when its front is written
+    pub rest : (text₂ : List ℕ) (end : ℕ) → Written (a ++ b) at text end text₂ → Written b mid text₁ end text₂
+    rest text₂ end v =
+        record {
+          ends = omega (arith, v .ends, w .ends, length-append a b);
+          holds = v .holds ∙ sets-append text at a b ∙ rw (w .ends, w .holds) refl;
+        }
+
+-- three and four pieces
+module _ (a b c text : List ℕ) (at : ℕ) (text₁ : List ℕ) (mid₁ : ℕ) (w₁ : Written a at text mid₁ text₁) where
+  pub second-fits : at + length (a ++ (b ++ c)) ≤ length text → mid₁ + length b ≤ length text₁
+  second-fits h = first-fits b c text₁ mid₁ (next-fits a (b ++ c) text at text₁ mid₁ w₁ h)
+
+  module _ (text₂ : List ℕ) (mid₂ : ℕ) (w₂ : Written b mid₁ text₁ mid₂ text₂) where
+    pub third-fits : at + length (a ++ (b ++ c)) ≤ length text → mid₂ + length c ≤ length text₂
+    third-fits h = next-fits b c text₁ mid₁ text₂ mid₂ w₂ (next-fits a (b ++ c) text at text₁ mid₁ w₁ h)
+
+    pub all-three : (text₃ : List ℕ) (end : ℕ) → Written c mid₂ text₂ end text₃ → Written (a ++ (b ++ c)) at text end text₃
+    all-three text₃ end w₃ = both a (b ++ c) text at text₁ mid₁ w₁ text₃ end (both b c text₁ mid₁ text₂ mid₂ w₂ text₃ end w₃)
+
+module _ (a b c d text : List ℕ) (at : ℕ) (text₁ : List ℕ) (mid₁ : ℕ) (w₁ : Written a at text mid₁ text₁) (text₂ : List ℕ) (mid₂ : ℕ) (w₂ : Written b mid₁ text₁ mid₂ text₂) where
+  pub third-of-four-fits : at + length (a ++ (b ++ (c ++ d))) ≤ length text → mid₂ + length c ≤ length text₂
+  third-of-four-fits h = second-fits b c d text₁ mid₁ text₂ mid₂ w₂ (next-fits a (b ++ (c ++ d)) text at text₁ mid₁ w₁ h)
+
+  module _ (text₃ : List ℕ) (mid₃ : ℕ) (w₃ : Written c mid₂ text₂ mid₃ text₃) where
+    pub fourth-fits : at + length (a ++ (b ++ (c ++ d))) ≤ length text → mid₃ + length d ≤ length text₃
+    fourth-fits h = third-fits b c d text₁ mid₁ text₂ mid₂ w₂ text₃ mid₃ w₃ (next-fits a (b ++ (c ++ d)) text at text₁ mid₁ w₁ h)
+
+    pub all-four : (text₄ : List ℕ) (end : ℕ) → Written d mid₃ text₃ end text₄ → Written (a ++ (b ++ (c ++ d))) at text end text₄
+    all-four text₄ end w₄ = both a (b ++ (c ++ d)) text at text₁ mid₁ w₁ text₄ end (all-three b c d text₁ mid₁ text₂ mid₂ w₂ text₃ mid₃ w₃ text₄ end w₄)
+
+-- what stands in front of the text, when it is written from 0 on
+pub front : (a text text′ : List ℕ) (end : ℕ) → length a ≤ length text → Written a 0 text end text′ → text′ ≡ over a text
+front a text text′ end h w =
+    let z : 0 + length a ≡ length a = omega arith in
+    w .holds ∙ sets-eq a text 0 (omega arith) ∙ rw z refl
+
+pub front-taken : (a text text′ : List ℕ) (end : ℕ) → length a ≤ length text → Written a 0 text end text′ → take end text′ ≡ a
+front-taken a text text′ end h w =
+    let z : end ≡ length a = omega (arith, w .ends) in
+    rw (front a text text′ end h w, z) (take-append-seam a (drop (length a) text))
 
 -- a copy to the text's rest
 pub copied : (piece text part : List ℕ) (at : ℕ) → at + length piece ≤ length text → part ≡ over piece (take (length text - at) (drop at text))

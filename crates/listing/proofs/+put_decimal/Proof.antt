@@ -31,7 +31,7 @@ module _ (t : ℕ) where
   digit-requires c κs = c .if1 .taken
 
   slice-write-text : lts.Need-slice-write-text claims at decimal.Post
-  slice-write-text c = let s = c .before .before .before in digit-fits _ _ _ (s .pre .1) (c .before .if1 .taken)
+  slice-write-text c = let s = c .before .before .before in digit-fits _ _ (s .args .text .now) (s .pre .1) (c .before .if1 .taken)
 
   add-result : lts.Need-add-result claims at decimal.Post
   add-result c = let s = c .before .before .before in omega (arith, s .good, digit-fits (s .args .n) (s .args .at) (s .args .text .now) (s .pre .1) (c .before .if1 .taken))
@@ -45,7 +45,7 @@ module _ (t : ℕ) where
   put-decimal-requires : lts.Need-put-decimal-requires claims at decimal.Post
   put-decimal-requires c κs =
       let s = c .before .before .before in
-      (omega (arith, s .pre .0, c .before .if1 .left), front-fits _ _ _ (s .pre .1) (c .before .if1 .left))
+      (omega (arith, s .pre .0, c .before .if1 .left), front-fits _ _ (s .args .text .now) (s .pre .1) (c .before .if1 .left))
 
   digit-requires-2 : lts.Need-digit-requires-2 claims at decimal.Post
   digit-requires-2 c κs = omega arith
@@ -63,7 +63,7 @@ module _ (t : ℕ) where
       omega (arith, s .good, w .put-decimal .kept .1 .1 .0, last-fits (s .args .n) (s .args .at) (s .args .text .now) (s .pre .1) (w .before .before .if1 .left) (w .put-decimal .last .1 .1 .0) (w .put-decimal .result) (w .put-decimal .ensures))
 
   same-length-2 : lts.Need-same-length-2 claims at decimal.Post
-  same-length-2 c = let w = c .before .before .before in length-set _ _ _ ∙ w .put-decimal .kept .1 .1 .0
+  same-length-2 c = let w = c .before .before .before in length-set (w .put-decimal .last .1 .1 .0) (w .put-decimal .result) (c .digit2 .result) ∙ w .put-decimal .kept .1 .1 .0
 
   returns-2 : lts.Need-returns-2 claims at decimal.Post
   returns-2 c =

@@ -1,34 +1,46 @@
+-- `listing::asks` meets its contract: a line that asks has ten bytes at most. Assumes nothing.
+use mathlib.Core.Path.{sym, ap, _∙_}
+use mathlib.Core.List.{List}
+use Prim.Native.Nat.{ℕ}
+use native.Mathlib.Omega.{arith}
+use lib.Seq.{length-take-le}
+use lib.ListN.{length, replicate}
+use Rattle.listing.specs.Listing.{lineFor, reads}
+use Rattle.listing.proofs.WriteLaws.{front-taken}
+use Rattle.listing.proofs.TextLaws.{asked-short}
 use borrow.Author.Needs.{needs}
 use Rattle.listing.proofs.asks.Statement.{statement}
 use Rattle.listing.proofs.asks.Tie as tie
-use Rattle.listing.proofs.asks.Reads as reads
-use Rattle.listing.proofs.asks.Lts as lts
-use Rattle.listing.proofs.put_asked.Reads as put-asked-reads
-use Rattle.listing.proofs.reads.Reads as reads-reads
 
--- src/lib.rt:251:39
 slice-aggregate-put-asked : tie.Need-slice-aggregate-put-asked
 slice-aggregate-put-asked c = search needs
 
--- src/lib.rt:251:9
 put-asked-requires : tie.Need-put-asked-requires
-put-asked-requires c κs = ?
+put-asked-requires c κs =
+    let s = c .before .before in
+    omega (arith, asked-short (s .args .schedule) (s .args .k) (s .pre .1))
 
--- src/lib.rt:252:11
 array-share-prefix-line : tie.Need-array-share-prefix-line
-array-share-prefix-line c = ?
+array-share-prefix-line c =
+    let s = c .before .before .before .before in
+    omega (arith, c .before .put-asked .ensures .ends, c .before .put-asked .kept .1 .1 .1 .0, asked-short (s .args .schedule) (s .args .k) (s .pre .1))
 
--- src/lib.rt:252:11
 slice-aggregate-reads : tie.Need-slice-aggregate-reads
-slice-aggregate-reads c = ?
+slice-aggregate-reads c =
+    let s = c .before .before .before .before .before in
+    let w = c .before .before in
+    sym (length-take-le _ _ (omega (arith, w .put-asked .ensures .ends, w .put-asked .kept .1 .1 .1 .0, asked-short (s .args .schedule) (s .args .k) (s .pre .1))))
 
--- src/lib.rt:252:5
 reads-requires : tie.Need-reads-requires
 reads-requires c κs = search needs
 
--- src/lib.rt:246:1
 returns : tie.Need-returns
-returns c = ?
+returns c =
+    let s = c .before .before .before .before .before .before in
+    let line : List ℕ = lineFor (s .args .schedule) (s .args .k) in
+    let z : ℕ = 0 in
+    c .reads .ensures
+    ∙ ap (λ (l : List ℕ). reads l (s .args .input .now)) (front-taken line (replicate 10 z) _ _ (omega (arith, asked-short (s .args .schedule) (s .args .k) (s .pre .1))) (c .before .before .before .put-asked .ensures))
 
 pub asks-spec : {M : Type 1} → statement M
 asks-spec =

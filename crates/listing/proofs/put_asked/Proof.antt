@@ -1,35 +1,41 @@
+-- `listing::put_asked` meets its contract. Assumes nothing.
+use mathlib.Core.List.{[], _∷_}
+use Rattle.listing.specs.Text.{decimal}
+use Rattle.listing.specs.Listing.{space, nameOf, lineFor}
+use Rattle.listing.proofs.WriteLaws.{first-fits, second-fits, third-fits, all-three}
 use borrow.Author.Needs.{needs}
 use Rattle.listing.proofs.put_asked.Statement.{statement}
 use Rattle.listing.proofs.put_asked.Tie as tie
-use Rattle.listing.proofs.put_asked.Reads as reads
-use Rattle.listing.proofs.put_asked.Lts as lts
-use Rattle.listing.proofs.put.Reads as put-reads
-use Rattle.listing.proofs.put_decimal.Reads as put-decimal-reads
-use Rattle.listing.proofs.put_name.Reads as put-name-reads
 
--- src/lib.rt:191:9
 put-name-requires : tie.Need-put-name-requires
-put-name-requires c κs = ?
+unfolding lineFor
+put-name-requires c κs =
+    let s = c .before .before in
+    first-fits (nameOf (s .args .schedule)) (space ∷ decimal (s .args .k)) (s .args .text .now) (s .args .at) (s .pre)
 
--- src/lib.rt:192:20
 slice-aggregate-put : tie.Need-slice-aggregate-put
 slice-aggregate-put c = search needs
 
--- src/lib.rt:192:9
 put-requires : tie.Need-put-requires
-put-requires c κs = ?
+unfolding lineFor
+put-requires c κs =
+    let s = c .before .before .before .before .before .before .before in
+    second-fits (nameOf (s .args .schedule)) (space ∷ []) (decimal (s .args .k)) (s .args .text .now) (s .args .at) _ _ (c .before .before .before .before .put-name .ensures) (s .pre)
 
--- src/lib.rt:193:5
 put-decimal-requires : tie.Need-put-decimal-requires
-put-decimal-requires c κs = ?
+unfolding lineFor
+put-decimal-requires c κs =
+    let s = c .before .before .before .before .before .before .before .before .before .before .before in
+    third-fits (nameOf (s .args .schedule)) (space ∷ []) (decimal (s .args .k)) (s .args .text .now) (s .args .at) _ _ (c .before .before .before .before .before .before .before .before .put-name .ensures) _ _ (c .before .before .before .put .ensures) (s .pre)
 
--- src/lib.rt:187:1
 same-length : tie.Need-same-length
 same-length c = search needs
 
--- src/lib.rt:187:1
 returns : tie.Need-returns
-returns c = ?
+unfolding lineFor
+returns c =
+    let s = c .before .before .before .before .before .before .before .before .before .before .before .before .before .before in
+    all-three (nameOf (s .args .schedule)) (space ∷ []) (decimal (s .args .k)) (s .args .text .now) (s .args .at) _ _ (c .before .before .before .before .before .before .before .before .before .before .before .put-name .ensures) _ _ (c .before .before .before .before .before .before .put .ensures) _ _ (c .before .before .put-decimal .ensures)
 
 pub put-asked-spec : {M : Type 1} → statement M
 put-asked-spec =

@@ -1,29 +1,40 @@
+-- `listing::put_field` meets its contract: the number's digits, and the mark behind them. Assumes nothing.
+use mathlib.Core.List.{[], _∷_}
+use native.Mathlib.Omega.{arith}
+use Rattle.listing.specs.Text.{decimal}
+use Rattle.listing.specs.Listing.{field}
+use Rattle.listing.proofs.WriteLaws.{first-fits, next-fits, both, byte}
 use borrow.Author.Needs.{needs}
 use Rattle.listing.proofs.put_field.Statement.{statement}
 use Rattle.listing.proofs.put_field.Tie as tie
-use Rattle.listing.proofs.put_field.Reads as reads
-use Rattle.listing.proofs.put_field.Lts as lts
-use Rattle.listing.proofs.put_decimal.Reads as put-decimal-reads
 
--- src/lib.rt:64:9
 put-decimal-requires : tie.Need-put-decimal-requires
-put-decimal-requires c κs = ?
+unfolding field
+put-decimal-requires c κs = let s = c .before .before in first-fits (decimal (s .args .n)) (s .args .mark ∷ []) (s .args .text .now) (s .args .at) (s .pre)
 
--- src/lib.rt:65:5
 slice-write-text : tie.Need-slice-write-text
-slice-write-text c = ?
+unfolding field
+slice-write-text c =
+    let w = c .before .before in
+    let s = w .before .before .before in
+    omega (arith, next-fits (decimal (s .args .n)) (s .args .mark ∷ []) (s .args .text .now) (s .args .at) (w .put-decimal .last .1 .1 .0) (w .put-decimal .result) (w .put-decimal .ensures) (s .pre))
 
--- src/lib.rt:66:5
 add-result : tie.Need-add-result
-add-result c = ?
+unfolding field
+add-result c =
+    let w = c .before .before in
+    let s = w .before .before .before in
+    omega (arith, s .good, w .put-decimal .kept .1 .1 .0, next-fits (decimal (s .args .n)) (s .args .mark ∷ []) (s .args .text .now) (s .args .at) (w .put-decimal .last .1 .1 .0) (w .put-decimal .result) (w .put-decimal .ensures) (s .pre))
 
--- src/lib.rt:60:1
 same-length : tie.Need-same-length
 same-length c = search needs
 
--- src/lib.rt:60:1
 returns : tie.Need-returns
-returns c = ?
+unfolding field
+returns c =
+    let w = c .before .before in
+    let s = w .before .before .before in
+    both (decimal (s .args .n)) (s .args .mark ∷ []) (s .args .text .now) (s .args .at) (w .put-decimal .last .1 .1 .0) (w .put-decimal .result) (w .put-decimal .ensures) _ _ (byte (s .args .mark) (w .put-decimal .result) (w .put-decimal .last .1 .1 .0))
 
 pub put-field-spec : {M : Type 1} → statement M
 put-field-spec =

@@ -1,38 +1,44 @@
+-- `listing::put_head` meets its contract. Assumes nothing.
+use Rattle.listing.specs.Text.{bytes}
+use Rattle.listing.specs.Listing.{lineFor, headLine}
+use Rattle.listing.proofs.WriteLaws.{first-fits, second-fits, third-fits, all-three}
+use mathlib.Core.List.{_++_}
 use borrow.Author.Needs.{needs}
 use Rattle.listing.proofs.put_head.Statement.{statement}
 use Rattle.listing.proofs.put_head.Tie as tie
-use Rattle.listing.proofs.put_head.Reads as reads
-use Rattle.listing.proofs.put_head.Lts as lts
-use Rattle.listing.proofs.put.Reads as put-reads
-use Rattle.listing.proofs.put_asked.Reads as put-asked-reads
 
--- src/lib.rt:200:21
 slice-aggregate-put : tie.Need-slice-aggregate-put
 slice-aggregate-put c = search needs
 
--- src/lib.rt:200:9
 put-requires : tie.Need-put-requires
-put-requires c κs = ?
+unfolding headLine bytes
+put-requires c κs =
+    let s = c .before .before .before in
+    first-fits (bytes "pebbles ") (lineFor (s .args .schedule) (s .args .k) ++ bytes "\n") (s .args .text .now) (s .args .at) (s .pre)
 
--- src/lib.rt:201:9
 put-asked-requires : tie.Need-put-asked-requires
-put-asked-requires c κs = ?
+unfolding headLine bytes
+put-asked-requires c κs =
+    let s = c .before .before .before .before .before .before .before in
+    second-fits (bytes "pebbles ") (lineFor (s .args .schedule) (s .args .k)) (bytes "\n") (s .args .text .now) (s .args .at) _ _ (c .before .before .before .put .ensures) (s .pre)
 
--- src/lib.rt:202:9
 slice-aggregate-put-2 : tie.Need-slice-aggregate-put-2
 slice-aggregate-put-2 c = search needs
 
--- src/lib.rt:202:5
 put-requires-2 : tie.Need-put-requires-2
-put-requires-2 c κs = ?
+unfolding headLine bytes
+put-requires-2 c κs =
+    let s = c .before .before .before .before .before .before .before .before .before .before .before .before in
+    third-fits (bytes "pebbles ") (lineFor (s .args .schedule) (s .args .k)) (bytes "\n") (s .args .text .now) (s .args .at) _ _ (c .before .before .before .before .before .before .before .before .put .ensures) _ _ (c .before .before .before .before .put-asked .ensures) (s .pre)
 
--- src/lib.rt:196:1
 same-length : tie.Need-same-length
 same-length c = search needs
 
--- src/lib.rt:196:1
 returns : tie.Need-returns
-returns c = ?
+unfolding headLine bytes
+returns c =
+    let s = c .before .before .before .before .before .before .before .before .before .before .before .before .before .before .before in
+    all-three (bytes "pebbles ") (lineFor (s .args .schedule) (s .args .k)) (bytes "\n") (s .args .text .now) (s .args .at) _ _ (c .before .before .before .before .before .before .before .before .before .before .before .put .ensures) _ _ (c .before .before .before .before .before .before .before .put-asked .ensures) _ _ (c .before .before .put2 .ensures)
 
 pub put-head-spec : {M : Type 1} → statement M
 put-head-spec =

@@ -1,63 +1,73 @@
+-- `listing::put_positions` meets its contract. The loop's invariant: what is still to be written makes the text that was promised.
+-- Assumes nothing.
+use mathlib.Core.Path.{_≡_, refl, sym, _∙_}
+use Prim.Native.Nat.{_+_, _-_, _≤_}
+use native.Mathlib.Omega.{arith}
+use borrow.Author.Needs.{needs}
+use lib.ListN.{length, drop}
+use lib.Seq.{sets}
+use Rattle.listing.specs.Listing.{positionList}
+use Rattle.listing.proofs.LineLaws.{Left, left-all, left-room, left-next, left-none, left-length}
 use Rattle.listing.proofs.put_positions.Statement.{statement}
 use Rattle.listing.proofs.put_positions.Tie as tie
-use Rattle.listing.proofs.put_positions.Reads as reads
-use Rattle.listing.proofs.put_positions.Lts as lts
-use Rattle.listing.proofs.mark_before.Reads as mark-before-reads
-use Rattle.listing.proofs.put_field.Reads as put-field-reads
 
 abbrev Inv-loop : tie.InvT-loop
-Inv-loop list at text₀ i₀ next₀ text i next = ?
+Inv-loop list at text₀ i₀ next₀ text i next = Left list at text₀ i next text
 
 abbrev μ-loop : tie.MeasureT-loop
-μ-loop list at text₀ i₀ next₀ text i next = ?
+μ-loop list at text₀ i₀ next₀ text i next = length list - i
 
--- src/lib.rt:83:5
 loop-holds : tie.Need-loop-holds Inv-loop μ-loop
-loop-holds c = ?
+loop-holds c =
+    left-all _ _ _
 
--- src/lib.rt:84:32
 sub-mark-before : tie.Need-sub-mark-before Inv-loop μ-loop
-sub-mark-before c = ?
+sub-mark-before c =
+    search needs
 
--- src/lib.rt:84:32
 sub-mark-before-2 : tie.Need-sub-mark-before-2 Inv-loop μ-loop
-sub-mark-before-2 c = ?
+sub-mark-before-2 c =
+    search needs
 
--- src/lib.rt:84:13
 mark-before-requires : tie.Need-mark-before-requires Inv-loop μ-loop
-mark-before-requires c κs = ?
+mark-before-requires c κs =
+    search needs
 
--- src/lib.rt:85:26
 mul-put-field : tie.Need-mul-put-field Inv-loop μ-loop
-mul-put-field c = ?
+mul-put-field c =
+    search needs
 
--- src/lib.rt:85:26
 shared-slice-read-put-field : tie.Need-shared-slice-read-put-field Inv-loop μ-loop
-shared-slice-read-put-field c = ?
+shared-slice-read-put-field c =
+    search needs
 
--- src/lib.rt:85:9
 put-field-requires : tie.Need-put-field-requires Inv-loop μ-loop
-put-field-requires c κs = ?
+put-field-requires c κs =
+    let l = c .before .before .before .before in
+    let s = l .before .before .before in
+    left-room (s .args .list .now) (s .args .at) (s .args .text .now) _ _ _ (l .loop .inv) (s .pre) (search needs) _ (c .before .before .mark-before .ensures)
 
--- src/lib.rt:86:9
 add-i : tie.Need-add-i Inv-loop μ-loop
-add-i c = ?
+add-i c =
+    search needs
 
--- src/lib.rt:83:5
 loop-less : tie.Need-loop-less Inv-loop μ-loop
-loop-less c = ?
+loop-less c =
+    search needs
 
--- src/lib.rt:83:5
 loop-again : tie.Need-loop-again Inv-loop μ-loop
-loop-again c = ?
+loop-again c =
+    let l = c .before .before .before .before .before .before .before in
+    let s = l .before .before .before in
+    left-next (s .args .list .now) (s .args .at) (s .args .text .now) _ _ _ (l .loop .inv) (search needs) _ (c .before .before .before .before .before .mark-before .ensures) _ _ (c .before .before .put-field .ensures)
 
--- src/lib.rt:77:1
 same-length : tie.Need-same-length Inv-loop μ-loop
-same-length c = ?
+same-length c =
+    left-length _ _ _ _ _ _ (c .before .loop .inv)
 
--- src/lib.rt:77:1
 returns : tie.Need-returns Inv-loop μ-loop
-returns c = ?
+returns c =
+    left-none _ _ _ _ _ _ (c .before .loop .inv) (omega arith)
 
 pub put-positions-spec : {M : Type 1} → statement M
 put-positions-spec =

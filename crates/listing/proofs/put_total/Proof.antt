@@ -1,30 +1,34 @@
+-- `listing::put_total` meets its contract. Assumes nothing.
+use Rattle.listing.specs.Text.{bytes}
+use Rattle.listing.specs.Listing.{lineFeed, field, totalLine}
+use Rattle.listing.proofs.WriteLaws.{first-fits, next-fits, both}
 use borrow.Author.Needs.{needs}
 use Rattle.listing.proofs.put_total.Statement.{statement}
 use Rattle.listing.proofs.put_total.Tie as tie
-use Rattle.listing.proofs.put_total.Reads as reads
-use Rattle.listing.proofs.put_total.Lts as lts
-use Rattle.listing.proofs.put.Reads as put-reads
-use Rattle.listing.proofs.put_field.Reads as put-field-reads
 
--- src/lib.rt:209:20
 slice-aggregate-put : tie.Need-slice-aggregate-put
 slice-aggregate-put c = search needs
 
--- src/lib.rt:209:9
 put-requires : tie.Need-put-requires
-put-requires c κs = ?
+unfolding totalLine bytes
+put-requires c κs =
+    let s = c .before .before .before in
+    first-fits (bytes "total ") (field (s .args .hashes) lineFeed) (s .args .text .now) (s .args .at) (s .pre)
 
--- src/lib.rt:210:5
 put-field-requires : tie.Need-put-field-requires
-put-field-requires c κs = ?
+unfolding totalLine bytes
+put-field-requires c κs =
+    let s = c .before .before .before .before .before .before .before in
+    next-fits (bytes "total ") (field (s .args .hashes) lineFeed) (s .args .text .now) (s .args .at) _ _ (c .before .before .before .put .ensures) (s .pre)
 
--- src/lib.rt:205:1
 same-length : tie.Need-same-length
 same-length c = search needs
 
--- src/lib.rt:205:1
 returns : tie.Need-returns
-returns c = ?
+unfolding totalLine bytes
+returns c =
+    let s = c .before .before .before .before .before .before .before .before .before .before in
+    both (bytes "total ") (field (s .args .hashes) lineFeed) (s .args .text .now) (s .args .at) _ _ (c .before .before .before .before .before .before .put .ensures) _ _ (c .before .before .put-field .ensures)
 
 pub put-total-spec : {M : Type 1} → statement M
 put-total-spec =

@@ -1,0 +1,56 @@
+-- `listing::put_held` meets its contract. Assumes nothing.
+use mathlib.Core.List.{_++_}
+use lib.ListN.{length}
+use Rattle.listing.specs.Listing.{space, field, positionList, heldFields}
+use Rattle.listing.proofs.WriteLaws.{first-fits, second-fits, third-of-four-fits, fourth-fits, all-four}
+use borrow.Author.Needs.{needs}
+use Rattle.listing.proofs.put_held.Statement.{statement}
+use Rattle.listing.proofs.put_held.Tie as tie
+
+put-field-requires : tie.Need-put-field-requires
+unfolding heldFields
+put-field-requires c κs =
+    let s = c .before .before .before in
+    first-fits (field (s .args .round) space) (field (s .args .hashes) space ++ (field (length (s .args .list .now)) space ++ positionList (s .args .list .now))) (s .args .text .now) (s .args .at) (s .pre .1)
+
+put-field-requires-2 : tie.Need-put-field-requires-2
+unfolding heldFields
+put-field-requires-2 c κs =
+    let s = c .before .before .before .before .before .before .before in
+    second-fits (field (s .args .round) space) (field (s .args .hashes) space) (field (length (s .args .list .now)) space ++ positionList (s .args .list .now)) (s .args .text .now) (s .args .at) _ _ (c .before .before .before .put-field .ensures) (s .pre .1)
+
+cast-put-field : tie.Need-cast-put-field
+cast-put-field c = search needs
+
+put-field-requires-3 : tie.Need-put-field-requires-3
+unfolding heldFields
+put-field-requires-3 c κs =
+    let s = c .before .before .before .before .before .before .before .before .before .before .before in
+    third-of-four-fits (field (s .args .round) space) (field (s .args .hashes) space) (field (length (s .args .list .now)) space) (positionList (s .args .list .now)) (s .args .text .now) (s .args .at) _ _ (c .before .before .before .before .before .before .before .put-field .ensures) _ _ (c .before .before .before .put-field2 .ensures) (s .pre .1)
+
+put-positions-requires : tie.Need-put-positions-requires
+unfolding heldFields
+put-positions-requires c κs =
+    let s = c .before .before .before .before .before .before .before .before .before .before .before .before .before .before .before in
+    fourth-fits (field (s .args .round) space) (field (s .args .hashes) space) (field (length (s .args .list .now)) space) (positionList (s .args .list .now)) (s .args .text .now) (s .args .at) _ _ (c .before .before .before .before .before .before .before .before .before .before .before .put-field .ensures) _ _ (c .before .before .before .before .before .before .before .put-field2 .ensures) _ _ (c .before .before .before .put-field3 .ensures) (s .pre .1)
+
+same-length : tie.Need-same-length
+same-length c = search needs
+
+returns : tie.Need-returns
+unfolding heldFields
+returns c =
+    let s = c .before .before .before .before .before .before .before .before .before .before .before .before .before .before .before .before .before .before in
+    all-four (field (s .args .round) space) (field (s .args .hashes) space) (field (length (s .args .list .now)) space) (positionList (s .args .list .now)) (s .args .text .now) (s .args .at) _ _ (c .before .before .before .before .before .before .before .before .before .before .before .before .before .before .put-field .ensures) _ _ (c .before .before .before .before .before .before .before .before .before .before .put-field2 .ensures) _ _ (c .before .before .before .before .before .before .put-field3 .ensures) _ _ (c .before .before .put-positions .ensures)
+
+pub put-held-spec : {M : Type 1} → statement M
+put-held-spec =
+    tie.close
+    (tie.spec
+    put-field-requires
+    put-field-requires-2
+    cast-put-field
+    put-field-requires-3
+    put-positions-requires
+    same-length
+    returns)
