@@ -1,43 +1,42 @@
+-- `listing::put_answer` meets its contract. Assumes nothing.
+use Rattle.listing.proofs.AnswerLaws.{other-fits, other-says, tick-fits, tick-end-fits, tick-says}
 use borrow.Author.Needs.{needs}
 use Rattle.listing.proofs.put_answer.Statement.{statement}
 use Rattle.listing.proofs.put_answer.Tie as tie
-use Rattle.listing.proofs.put_answer.Reads as reads
-use Rattle.listing.proofs.put_answer.Lts as lts
-use Rattle.listing.proofs.put_field.Reads as put-field-reads
-use Rattle.listing.proofs.put_held.Reads as put-held-reads
-use Rattle.listing.proofs.put_quiet.Reads as put-quiet-reads
 
--- src/lib.rt:120:29
 enum-known-answer : tie.Need-enum-known-answer
 enum-known-answer c = search needs
 
--- src/lib.rt:121:9
 put-quiet-requires : tie.Need-put-quiet-requires
-put-quiet-requires c κs = ?
+put-quiet-requires c κs =
+    let s = c .before .before .before .before in
+    (s .pre .0, other-fits (s .args .round) (s .args .list .now) (s .args .at) (s .args .text .now) (s .args .answer) (c .before .match .keys2) (s .pre .1))
 
--- src/lib.rt:121:9
 same-length : tie.Need-same-length
 same-length c = search needs
 
--- src/lib.rt:121:9
 returns : tie.Need-returns
-returns c = ?
+returns c =
+    let s = c .before .before .before .before .before .before .before in
+    other-says (s .args .round) (s .args .list .now) (s .args .at) (s .args .text .now) (s .args .answer) (c .before .before .before .before .match .keys2) _ _ (c .before .before .put-quiet .ensures)
 
--- src/lib.rt:123:9
 put-held-requires : tie.Need-put-held-requires
-put-held-requires c κs = ?
+put-held-requires c κs =
+    let s = c .before .before .before .before .before .before in
+    (s .pre .0, tick-fits (s .args .round) (s .args .list .now) (s .args .at) (s .args .text .now) (s .args .answer) _ _ (c .before .before .answer .given .1) (s .pre .1))
 
--- src/lib.rt:124:9
 put-field-requires : tie.Need-put-field-requires
-put-field-requires c κs = ?
+put-field-requires c κs =
+    let s = c .before .before .before .before .before .before .before .before .before .before in
+    tick-end-fits (s .args .round) (s .args .list .now) (s .args .at) (s .args .text .now) (s .args .answer) _ _ (c .before .before .before .before .before .before .answer .given .1) (s .pre .1) _ _ (c .before .before .before .put-held .ensures)
 
--- src/lib.rt:116:1
 same-length-2 : tie.Need-same-length-2
 same-length-2 c = search needs
 
--- src/lib.rt:116:1
 returns-2 : tie.Need-returns-2
-returns-2 c = ?
+returns-2 c =
+    let s = c .before .before .before .before .before .before .before .before .before .before .before .before .before in
+    tick-says (s .args .round) (s .args .list .now) (s .args .at) (s .args .text .now) (s .args .answer) _ _ (c .before .before .before .before .before .before .before .before .before .answer .given .1) _ _ (c .before .before .before .before .before .before .put-held .ensures) _ _ (c .before .before .put-field .ensures)
 
 pub put-answer-spec : {M : Type 1} → statement M
 put-answer-spec =

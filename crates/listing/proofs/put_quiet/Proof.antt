@@ -1,38 +1,39 @@
+-- `listing::put_quiet` meets its contract. Assumes nothing.
+use Rattle.listing.specs.Text.{bytes}
+use Rattle.listing.proofs.AnswerLaws.{quiet-none, quiet-fits, quiet-end-fits, quiet-says}
 use borrow.Author.Needs.{needs}
 use Rattle.listing.proofs.put_quiet.Statement.{statement}
 use Rattle.listing.proofs.put_quiet.Tie as tie
-use Rattle.listing.proofs.put_quiet.Reads as reads
-use Rattle.listing.proofs.put_quiet.Lts as lts
-use Rattle.listing.proofs.put.Reads as put-reads
-use Rattle.listing.proofs.put_held.Reads as put-held-reads
 
--- src/lib.rt:107:30
 enum-known-answer : tie.Need-enum-known-answer
 enum-known-answer c = search needs
 
--- src/lib.rt:108:9
 returns : tie.Need-returns
-returns c = ?
+returns c =
+    quiet-none _ _ _ _ _ (c .match .keys2)
 
--- src/lib.rt:110:9
 put-held-requires : tie.Need-put-held-requires
-put-held-requires c κs = ?
+put-held-requires c κs =
+    let s = c .before .before .before .before .before .before in
+    (s .pre .0, quiet-fits (s .args .round) (s .args .list .now) (s .args .at) (s .args .text .now) (s .args .answer) _ (c .before .before .answer .given .1) (s .pre .1))
 
--- src/lib.rt:111:19
 slice-aggregate-put : tie.Need-slice-aggregate-put
 slice-aggregate-put c = search needs
 
--- src/lib.rt:111:9
 put-requires : tie.Need-put-requires
-put-requires c κs = ?
+unfolding bytes
+put-requires c κs =
+    let s = c .before .before .before .before .before .before .before .before .before .before .before in
+    quiet-end-fits (s .args .round) (s .args .list .now) (s .args .at) (s .args .text .now) (s .args .answer) _ (c .before .before .before .before .before .before .before .answer .given .1) (s .pre .1) _ _ (c .before .before .before .before .put-held .ensures)
 
--- src/lib.rt:103:1
 same-length : tie.Need-same-length
 same-length c = search needs
 
--- src/lib.rt:103:1
 returns-2 : tie.Need-returns-2
-returns-2 c = ?
+unfolding bytes
+returns-2 c =
+    let s = c .before .before .before .before .before .before .before .before .before .before .before .before .before .before in
+    quiet-says (s .args .round) (s .args .list .now) (s .args .at) (s .args .text .now) (s .args .answer) _ (c .before .before .before .before .before .before .before .before .before .before .answer .given .1) _ _ (c .before .before .before .before .before .before .before .put-held .ensures) _ _ (c .before .before .put .ensures)
 
 pub put-quiet-spec : {M : Type 1} → statement M
 put-quiet-spec =

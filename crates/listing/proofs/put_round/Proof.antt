@@ -1,67 +1,63 @@
+-- `listing::put_round` meets its contract. Assumes nothing.
+use mathlib.Core.Path.{sym}
+use native.Mathlib.Omega.{arith}
+use lib.Seq.{length-take-le}
+use Rattle.listing.proofs.RoundLaws.{never-refused, held-fits, answer-fits, line-says, card-moves}
 use borrow.Author.Needs.{needs}
 use Rattle.listing.proofs.put_round.Statement.{statement}
 use Rattle.listing.proofs.put_round.Tie as tie
-use Rattle.listing.proofs.put_round.Reads as reads
-use Rattle.listing.proofs.put_round.Lts as lts
-use Rattle.card.proofs.round.Reads as round-reads
-use Rattle.listing.proofs.put_answer.Reads as put-answer-reads
-use Rattle.pebbling.proofs.positions.Reads as positions-reads
 
--- src/lib.rt:144:58
 slice-aggregate-positions : tie.Need-slice-aggregate-positions
 slice-aggregate-positions c = search needs
 
--- src/lib.rt:144:9
 positions-requires : tie.Need-positions-requires
 positions-requires c κs = search needs
 
--- src/lib.rt:145:35
 enum-known-listed : tie.Need-enum-known-listed
 enum-known-listed c = search needs
 
--- src/lib.rt:146:9
 enum-told : tie.Need-enum-told
 enum-told c = search needs
 
--- src/lib.rt:146:9
 returns : tie.Need-returns
-returns c = ?
+returns c =
+    let s = c .before .before .before .before .before .before .before in
+    absurd (never-refused (s .args .schedule) (s .args .k) (s .args .round) (s .pre .0) _ _ (c .before .before .before .positions .ensures) _ (c .enum-told .given .1))
 
--- src/lib.rt:149:36
 slice-aggregate-round : tie.Need-slice-aggregate-round
 slice-aggregate-round c = search needs
 
--- src/lib.rt:149:9
 round-requires : tie.Need-round-requires
 round-requires c κs = search needs
 
--- src/lib.rt:150:13
 cast-n : tie.Need-cast-n
 cast-n c = search needs
 
--- src/lib.rt:151:23
 array-share-prefix-list : tie.Need-array-share-prefix-list
-array-share-prefix-list c = ?
+array-share-prefix-list c =
+    let s = c .before .before .before .before .before .before .before .before .before .before .before .before .before .before in
+    held-fits (s .args .schedule) (s .args .k) (s .args .round) (s .pre .0) _ _ (c .before .before .before .before .before .before .before .before .before .before .positions .ensures) _ _ (c .before .before .before .before .before .before .before .listed .given .1)
 
--- src/lib.rt:151:23
 slice-aggregate-put-answer : tie.Need-slice-aggregate-put-answer
-slice-aggregate-put-answer c = ?
+slice-aggregate-put-answer c =
+    let s = c .before .before .before .before .before .before .before .before .before .before .before .before .before .before .before in
+    sym (length-take-le _ _ (held-fits (s .args .schedule) (s .args .k) (s .args .round) (s .pre .0) _ _ (c .before .before .before .before .before .before .before .before .before .before .before .positions .ensures) _ _ (c .before .before .before .before .before .before .before .before .listed .given .1)))
 
--- src/lib.rt:151:5
 put-answer-requires : tie.Need-put-answer-requires
-put-answer-requires c κs = ?
+put-answer-requires c κs =
+    let s = c .before .before .before .before .before .before .before .before .before .before .before .before .before .before .before .before in
+    answer-fits (s .args .schedule) (s .args .k) (s .args .round) (s .pre .0) _ _ (c .before .before .before .before .before .before .before .before .before .before .before .before .positions .ensures) _ _ (c .before .before .before .before .before .before .before .before .before .listed .given .1) _ _ _ _ (s .pre .1 .0) (c .before .before .before .before .before .round .ensures) (s .args .text .now) _ (s .pre .1 .1)
 
--- src/lib.rt:129:1
 same-length : tie.Need-same-length
 same-length c = search needs
 
--- src/lib.rt:129:1
 same-length-2 : tie.Need-same-length-2
 same-length-2 c = search needs
 
--- src/lib.rt:129:1
 returns-2 : tie.Need-returns-2
-returns-2 c = ?
+returns-2 c =
+    let s = c .before .before .before .before .before .before .before .before .before .before .before .before .before .before .before .before .before .before .before in
+    (line-says (s .args .schedule) (s .args .k) (s .args .round) (s .pre .0) _ _ (c .before .before .before .before .before .before .before .before .before .before .before .before .before .before .before .positions .ensures) _ _ (c .before .before .before .before .before .before .before .before .before .before .before .before .listed .given .1) _ _ _ _ (s .pre .1 .0) (c .before .before .before .before .before .before .before .before .round .ensures) (s .args .text .now) _ _ _ (c .before .before .put-answer .ensures), card-moves (s .args .schedule) (s .args .k) (s .args .round) (s .pre .0) _ _ (c .before .before .before .before .before .before .before .before .before .before .before .before .before .before .before .positions .ensures) _ _ (c .before .before .before .before .before .before .before .before .before .before .before .before .listed .given .1) _ _ _ _ (s .pre .1 .0) (c .before .before .before .before .before .before .before .before .round .ensures))
 
 pub put-round-spec : {M : Type 1} → statement M
 put-round-spec =
