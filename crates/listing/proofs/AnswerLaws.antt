@@ -11,13 +11,12 @@ use Rattle.card.proofs.RoundAnswer.{the-type}
 use Rattle.card.specs.Promises.{roundSays, ranSays}
 use Rattle.card.specs.declared.RoundAnswer.{RoundAnswer}
 use Rattle.card.specs.declared.RoundAnswer.the-variants.{Quiet, Tick, Refused}
-use Rattle.pebbling.specs.Promises.{Written}
+use Rattle.lists.specs.Written.{Written, written-none, first-fits, next-fits, written-both}
 use Rattle.refusals.specs.Numbers.{saidOf}
 use Rattle.listing.specs.declared.Line.{Line}
 use Rattle.listing.specs.Text.{bytes}
 use Rattle.listing.specs.Listing.{lineFeed, field, putOutField, heldFields, lineOf}
 use Rattle.listing.specs.Steps.{Lined, quietLine, quietHashes, answerLine, answerHashes}
-use Rattle.listing.proofs.WriteLaws.{nothing, first-fits, next-fits, both}
 
 abbrev tag : RoundAnswer → ℕ
 tag a = tagOf the-type a
@@ -31,8 +30,8 @@ module _ (r : ℕ) (held : List ℕ) (at : ℕ) (text : List ℕ) where
   unfolding quietLine quietHashes
   quiet-none (Quiet hashes) (inl e) = absurd (omega arith)
   quiet-none (Quiet hashes) (inr e) = absurd (omega arith)
-  quiet-none (Tick position hashes) o = record { wrote = nothing text at; counts = refl }
-  quiet-none (Refused why) o = record { wrote = nothing text at; counts = refl }
+  quiet-none (Tick position hashes) o = record { wrote = written-none text at; counts = refl }
+  quiet-none (Refused why) o = record { wrote = written-none text at; counts = refl }
 
   module _ (a : RoundAnswer) (hashes : ℕ) (e : a ≡ Quiet hashes) where
     quiet-line : quietLine r held a ≡ heldFields r hashes held ++ bytes "-\n"
@@ -51,7 +50,7 @@ module _ (r : ℕ) (held : List ℕ) (at : ℕ) (text : List ℕ) where
     unfolding quietHashes
     quiet-says text₁ mid w text₂ end v =
         record {
-          wrote = rw quiet-line (both (heldFields r hashes held) (bytes "-\n") text at text₁ mid w text₂ end v);
+          wrote = rw quiet-line (written-both (heldFields r hashes held) (bytes "-\n") text at text₁ mid w text₂ end v);
           counts = rw e refl;
         }
 
@@ -89,7 +88,7 @@ module _ (r : ℕ) (held : List ℕ) (at : ℕ) (text : List ℕ) where
     unfolding answerHashes
     tick-says text₁ mid w text₂ end v =
         record {
-          wrote = rw tick-line (both (heldFields r hashes held) (field position lineFeed) text at text₁ mid w text₂ end v);
+          wrote = rw tick-line (written-both (heldFields r hashes held) (field position lineFeed) text at text₁ mid w text₂ end v);
           counts = rw e refl;
         }
 

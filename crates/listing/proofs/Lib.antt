@@ -1,4 +1,3 @@
-pub mod WriteLaws
 pub mod TextLaws
 pub mod ReadLaws
 pub mod LineLaws

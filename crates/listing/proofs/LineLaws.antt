@@ -7,9 +7,8 @@ use native.Mathlib.Numerals.{add-one}
 use native.Mathlib.Omega.{arith}
 use lib.ListN.{length, drop, getD, length-append, length-drop, drop-of-length-le}
 use lib.Seq.{sets, length-sets, drop-cons}
-use Rattle.pebbling.specs.Promises.{Written}
+use Rattle.lists.specs.Written.{Written, written-length, written-as, written-rest}
 use Rattle.listing.specs.Listing.{field, markBefore, positionList}
-use Rattle.listing.proofs.WriteLaws.{written-length, written-as, rest}
 
 pub record Left (list : List ℕ) (at : ℕ) (text₀ : List ℕ) (i next : ℕ) (text : List ℕ) : Type 0 where
   pub upto : i ≤ length list
@@ -44,7 +43,7 @@ module _ (list : List ℕ) (at : ℕ) (text₀ : List ℕ) (i next : ℕ) (text 
     left-next text₁ mid w =
         record {
           upto = omega arith;
-          left = rest (field (getD list i 0) mark) (positionList (drop (i + 1) list)) text next text₁ mid w _ _ split;
+          left = written-rest (field (getD list i 0) mark) (positionList (drop (i + 1) list)) text next text₁ mid w _ _ split;
         }
 
   pub left-room : at + length (positionList list) ≤ length text₀ → (less : i < length list) (mark : ℕ) → mark ≡ markBefore (length list - i - 1)

@@ -10,13 +10,13 @@ use native.Mathlib.Omega.{arith}
 use lib.ListN.{length, length-append}
 use lib.Pow.{pow-mono, pow-pos}
 use Rattle.lists.specs.Writing.{over}
-use Rattle.pebbling.specs.Promises.{Power, Written}
+use Rattle.lists.specs.Written.{Written, written-length, written-none, written-both, next-fits, written-three, written-front}
+use Rattle.pebbling.specs.Promises.{Power}
 use Rattle.pebbling.specs.Recursion.{total, schedule, work}
 use Rattle.listing.specs.declared.Line.{Line}
 use Rattle.listing.specs.Text.{bytes}
 use Rattle.listing.specs.Listing.{reads, roundLine, roundLines, lineFor, headLine, totalLine, listingOf, listedBy, listed, Listing}
 use Rattle.listing.specs.Steps.{Lined, Round, cardBefore}
-use Rattle.listing.proofs.WriteLaws.{written-length, nothing, both, next-fits, all-three, front}
 use Rattle.listing.proofs.SizeLaws.{line-short, lines-short, total-small, head-short, total-short}
 
 abbrev hashes : ℕ → ℕ → ℕ → ℕ
@@ -33,7 +33,7 @@ pub record Ran (s k at : ℕ) (text₀ card : List ℕ) (text : List ℕ) (round
 module _ (s k at : ℕ) (text₀ : List ℕ) (scheduled : s ≤ 3) (small : k ≤ 10) where
   pub ran-none : (card : List ℕ) → card ≡ cardBefore s k 1 → Ran s k at text₀ card text₀ 1 at 0
   unfolding roundLines total
-  ran-none card e = record { from = omega arith; upto = omega (arith, pow-pos k); wrote = nothing text₀ at; counts = refl; holds = e }
+  ran-none card e = record { from = omega arith; upto = omega (arith, pow-pos k); wrote = written-none text₀ at; counts = refl; holds = e }
 
   module _ (early : at ≤ 1000) (long : length text₀ ≡ 262144) (stop : ℕ) (p : Power (k + 1) stop) where
     last : stop ≡ 2 ^ suc k
@@ -76,7 +76,7 @@ module _ (s k at : ℕ) (text₀ : List ℕ) (scheduled : s ≤ 3) (small : k �
               record {
                 from = omega arith;
                 upto = omega (arith, last);
-                wrote = rw (z, ← l) (both (roundLines s k (round - 1)) (roundLine s k round) text₀ at text end (ran .wrote) text′ (line .end) (w .wrote));
+                wrote = rw (z, ← l) (written-both (roundLines s k (round - 1)) (roundLine s k round) text₀ at text end (ran .wrote) text′ (line .end) (w .wrote));
                 counts = rw z sums;
                 holds = e ∙ ap (cardBefore s k) (sym (add-one round));
               }
@@ -115,7 +115,7 @@ module _ (s k : ℕ) (text : List ℕ) (scheduled : s ≤ 3) (small : k ≤ 10) 
       pub listing-says : (text₃ : List ℕ) (end : ℕ) → Written (totalLine (run .hashes)) (run .end) text₂ end text₃ → Written (listingOf s k) 0 text end text₃
       unfolding listingOf
       listing-says text₃ end u =
-          all-three (headLine s k) (roundLines s k (2 ^ suc k - 1)) (totalLine (hashes s k (2 ^ suc k - 1))) text 0 text₁ first w text₂ (run .end) (v .wrote) text₃ end
+          written-three (headLine s k) (roundLines s k (2 ^ suc k - 1)) (totalLine (hashes s k (2 ^ suc k - 1))) text 0 text₁ first w text₂ (run .end) (v .wrote) text₃ end
           (rw (v .counts) at u)
 
 pub listing-short : (s k : ℕ) → s ≤ 3 → k ≤ 10 → length (listingOf s k) ≤ 262144
@@ -137,6 +137,14 @@ listing-short s k a b =
 -- ---- the lines that are tried in turn
 
 module _ (input : List ℕ) (i : ℕ) (rest : listed input ≡ listedBy i input) where
+  promised : (piece : List ℕ) → listed input ≡ piece → (text text′ : List ℕ) (end : ℕ) → length piece ≤ length text → Written piece 0 text end text′ → Listing input text end text′
+  promised piece q text text′ end fits w =
+      record {
+        says = omega (arith, w .ends, ap length q);
+        leaves = rw q (written-front piece text text′ end fits w);
+        within = omega (arith, w .ends, written-length piece text text′ 0 end w);
+      }
+
   -- line number i - 1
   module _ (some : 0 < i) where
     one : listedBy i input ≡ cond (reads (lineFor ((i - 1) / 11) ((i - 1) % 11)) input) (listingOf ((i - 1) / 11) ((i - 1) % 11)) (listedBy (i - 1) input)
@@ -149,18 +157,12 @@ module _ (input : List ℕ) (i : ℕ) (rest : listed input ≡ listedBy i input)
     pub found : i ≤ 44 → true ≡ reads (lineFor ((i - 1) / 11) ((i - 1) % 11)) input → (text text′ : List ℕ) (end : ℕ) → length text ≡ 262144
         → Written (listingOf ((i - 1) / 11) ((i - 1) % 11)) 0 text end text′ → Listing input text end text′
     found h e text text′ end long w =
-        let q : listed input ≡ listingOf ((i - 1) / 11) ((i - 1) % 11) = rest ∙ one ∙ rw (← e) refl in
-        record {
-          says = omega (arith, w .ends, ap length q);
-          leaves = rw q (front _ text text′ end (omega (arith, listing-short ((i - 1) / 11) ((i - 1) % 11) (omega arith) (omega arith))) w);
-        }
+        let l : List ℕ = listingOf ((i - 1) / 11) ((i - 1) % 11) in
+        let q : listed input ≡ l = rest ∙ one ∙ rw (← e) refl in
+        promised l q text text′ end (omega (arith, listing-short ((i - 1) / 11) ((i - 1) % 11) (omega arith) (omega arith))) w
 
   pub refused : i ≤ 0 → (text text′ : List ℕ) (end : ℕ) → length text ≡ 262144 → Written (bytes "refused\n") 0 text end text′ → Listing input text end text′
   unfolding listedBy
   refused h text text′ end long w =
       let z : i ≡ 0 = omega arith in
-      let q : listed input ≡ bytes "refused\n" = rest ∙ rw z refl in
-      record {
-        says = omega (arith, w .ends, ap length q);
-        leaves = rw q (front (bytes "refused\n") text text′ end (unfold bytes in omega arith) w);
-      }
+      promised (bytes "refused\n") (rest ∙ rw z refl) text text′ end (unfold bytes in omega arith) w

@@ -19,7 +19,7 @@ use Rattle.pebbling.specs.Totals.{run-total, work-lt}
 use Rattle.listing.specs.Text.{bytes, decimal}
 use Rattle.listing.specs.Listing.{space, lineFeed, field, markBefore, positionList, putOutField, heldFields, lineOf, roundLine, roundLines, lineFor, headLine, totalLine}
 use Rattle.listing.specs.Steps.{Round}
-use Rattle.listing.proofs.TextLaws.{decimal-short, asked-short}
+use Rattle.listing.specs.Lines.{decimal-short, asked-short}
 
 -- ---- fields
 

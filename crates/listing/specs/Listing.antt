@@ -2,7 +2,7 @@
 use mathlib.Core.Path.{_≡_, sym, _∙_}
 use mathlib.Core.Bool.{Bool, true, false, cond, _&&_}
 use mathlib.Core.List.{List, [], _∷_, _++_}
-use Prim.Native.Nat.{ℕ, zero, suc, _+_, _-_, _/_, _%_, _^_}
+use Prim.Native.Nat.{ℕ, zero, suc, _-_, _/_, _%_, _^_, _≤_}
 use lib.Dec.{eqb}
 use lib.ListN.{length}
 use Rattle.lists.specs.Writing.{over}
@@ -94,11 +94,12 @@ listedBy (suc i) input = cond (reads (lineFor (i / 11) (i % 11)) input) (listing
 unfoldable pub listed : List ℕ → List ℕ
 listed input = listedBy 44 input
 
--- ---- the promise of the call: how many bytes are written to the front of the lent text; those behind them stay
+-- ---- the promise of the call: how many bytes are written to the front of the lent text; those behind them stay. They fit
 
 pub record Listing (input text : List ℕ) (count : ℕ) (text′ : List ℕ) : Type 0 where
   pub says : count ≡ length (listed input)
   pub leaves : text′ ≡ over (listed input) text
+  pub within : count ≤ length text′
 
 -- two outcomes that both keep the promise are the same
 pub listing-leaves-no-choice : (input text : List ℕ) (a b : ℕ) (text₁ text₂ : List ℕ)

@@ -6,10 +6,9 @@ use lib.ListN.{length, replicate}
 use Rattle.card.specs.Run.{heldAt}
 use Rattle.card.specs.declared.RoundAnswer.{RoundAnswer}
 use Rattle.card.specs.declared.RoundAnswer.the-variants.{Quiet, Tick, Refused}
-use Rattle.pebbling.specs.Promises.{Written}
-use Rattle.pebbling.specs.Recursion.{schedule, work}
+use Rattle.lists.specs.Written.{Written}
 use Rattle.listing.specs.declared.Line.{Line}
-use Rattle.listing.specs.Listing.{lineOf, roundLine}
+use Rattle.listing.specs.Listing.{lineOf}
 
 -- a piece is written from `at` on, and the line tells of so many hashes
 pub record Lined (piece : List ℕ) (hashes at : ℕ) (text : List ℕ) (line : Line) (text′ : List ℕ) : Type 0 where

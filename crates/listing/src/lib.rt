@@ -5,7 +5,7 @@ ghost use mathlib.Core.List.{_∷_, []};
 ghost use mathlib.Core.Path.{_≡_};
 ghost use Prim.Native.Nat.{suc, _+_, _-_, _^_, _≤_, _<_};
 ghost use lib.ListN.{length};
-ghost use Rattle.pebbling.specs.Promises.{Written};
+ghost use Rattle.lists.specs.Written.{Written};
 ghost use Rattle.pebbling.specs.Recursion.{schedule as scheduleOf, work, total as totalOf};
 ghost use Rattle.listing.specs.Text.{decimal};
 ghost use Rattle.listing.specs.Text.{digit as digitOf};

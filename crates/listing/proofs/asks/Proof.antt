@@ -5,9 +5,9 @@ use Prim.Native.Nat.{ℕ}
 use native.Mathlib.Omega.{arith}
 use lib.Seq.{length-take-le}
 use lib.ListN.{length, replicate}
+use Rattle.lists.specs.Written.{written-taken}
 use Rattle.listing.specs.Listing.{lineFor, reads}
-use Rattle.listing.proofs.WriteLaws.{front-taken}
-use Rattle.listing.proofs.TextLaws.{asked-short}
+use Rattle.listing.specs.Lines.{asked-short}
 use borrow.Author.Needs.{needs}
 use Rattle.listing.proofs.asks.Statement.{statement}
 use Rattle.listing.proofs.asks.Tie as tie
@@ -40,7 +40,7 @@ returns c =
     let line : List ℕ = lineFor (s .args .schedule) (s .args .k) in
     let z : ℕ = 0 in
     c .reads .ensures
-    ∙ ap (λ (l : List ℕ). reads l (s .args .input .now)) (front-taken line (replicate 10 z) _ _ (omega (arith, asked-short (s .args .schedule) (s .args .k) (s .pre .1))) (c .before .before .before .put-asked .ensures))
+    ∙ ap (λ (l : List ℕ). reads l (s .args .input .now)) (written-taken line (replicate 10 z) _ _ (omega (arith, asked-short (s .args .schedule) (s .args .k) (s .pre .1))) (c .before .before .before .put-asked .ensures))
 
 pub asks-spec : {M : Type 1} → statement M
 asks-spec =

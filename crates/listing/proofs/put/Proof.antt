@@ -1,6 +1,6 @@
 -- `listing::put` meets its contract: a copy to the front of the text's rest is the piece written from `at` on. Assumes nothing.
 use borrow.Author.Needs.{needs}
-use Rattle.listing.proofs.WriteLaws.{copied}
+use Rattle.lists.specs.Written.{written-part}
 use Rattle.listing.proofs.put.Statement.{statement}
 use Rattle.listing.proofs.put.Tie as tie
 
@@ -25,7 +25,7 @@ same-length c = search needs
 returns : tie.Need-returns
 returns c =
     let start = c .before .before .before .before .before .before in
-    copied (start .args .piece .now) (start .args .text .now) _ (start .args .at) (start .pre) (c .before .before .copy .ensures)
+    written-part (start .args .piece .now) (start .args .text .now) _ (start .args .at) (start .pre) (c .before .before .copy .ensures)
 
 pub put-spec : {M : Type 1} → statement M
 put-spec =

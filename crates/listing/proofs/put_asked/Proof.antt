@@ -1,8 +1,8 @@
 -- `listing::put_asked` meets its contract. Assumes nothing.
 use mathlib.Core.List.{[], _∷_}
+use Rattle.lists.specs.Written.{first-fits, second-fits, third-fits, written-three}
 use Rattle.listing.specs.Text.{decimal}
 use Rattle.listing.specs.Listing.{space, nameOf, lineFor}
-use Rattle.listing.proofs.WriteLaws.{first-fits, second-fits, third-fits, all-three}
 use borrow.Author.Needs.{needs}
 use Rattle.listing.proofs.put_asked.Statement.{statement}
 use Rattle.listing.proofs.put_asked.Tie as tie
@@ -35,7 +35,7 @@ returns : tie.Need-returns
 unfolding lineFor
 returns c =
     let s = c .before .before .before .before .before .before .before .before .before .before .before .before .before .before in
-    all-three (nameOf (s .args .schedule)) (space ∷ []) (decimal (s .args .k)) (s .args .text .now) (s .args .at) _ _ (c .before .before .before .before .before .before .before .before .before .before .before .put-name .ensures) _ _ (c .before .before .before .before .before .before .put .ensures) _ _ (c .before .before .put-decimal .ensures)
+    written-three (nameOf (s .args .schedule)) (space ∷ []) (decimal (s .args .k)) (s .args .text .now) (s .args .at) _ _ (c .before .before .before .before .before .before .before .before .before .before .before .put-name .ensures) _ _ (c .before .before .before .before .before .before .put .ensures) _ _ (c .before .before .put-decimal .ensures)
 
 pub put-asked-spec : {M : Type 1} → statement M
 put-asked-spec =

@@ -1,9 +1,9 @@
 -- `listing::put_field` meets its contract: the number's digits, and the mark behind them. Assumes nothing.
 use mathlib.Core.List.{[], _∷_}
 use native.Mathlib.Omega.{arith}
+use Rattle.lists.specs.Written.{first-fits, next-fits, written-both, written-one}
 use Rattle.listing.specs.Text.{decimal}
 use Rattle.listing.specs.Listing.{field}
-use Rattle.listing.proofs.WriteLaws.{first-fits, next-fits, both, byte}
 use borrow.Author.Needs.{needs}
 use Rattle.listing.proofs.put_field.Statement.{statement}
 use Rattle.listing.proofs.put_field.Tie as tie
@@ -34,7 +34,7 @@ unfolding field
 returns c =
     let w = c .before .before in
     let s = w .before .before .before in
-    both (decimal (s .args .n)) (s .args .mark ∷ []) (s .args .text .now) (s .args .at) (w .put-decimal .last .1 .1 .0) (w .put-decimal .result) (w .put-decimal .ensures) _ _ (byte (s .args .mark) (w .put-decimal .result) (w .put-decimal .last .1 .1 .0))
+    written-both (decimal (s .args .n)) (s .args .mark ∷ []) (s .args .text .now) (s .args .at) (w .put-decimal .last .1 .1 .0) (w .put-decimal .result) (w .put-decimal .ensures) _ _ (written-one (s .args .mark) (w .put-decimal .result) (w .put-decimal .last .1 .1 .0))
 
 pub put-field-spec : {M : Type 1} → statement M
 put-field-spec =

@@ -1,7 +1,7 @@
 -- `listing::put_head` meets its contract. Assumes nothing.
+use Rattle.lists.specs.Written.{first-fits, second-fits, third-fits, written-three}
 use Rattle.listing.specs.Text.{bytes}
 use Rattle.listing.specs.Listing.{lineFor, headLine}
-use Rattle.listing.proofs.WriteLaws.{first-fits, second-fits, third-fits, all-three}
 use mathlib.Core.List.{_++_}
 use borrow.Author.Needs.{needs}
 use Rattle.listing.proofs.put_head.Statement.{statement}
@@ -38,7 +38,7 @@ returns : tie.Need-returns
 unfolding headLine bytes
 returns c =
     let s = c .before .before .before .before .before .before .before .before .before .before .before .before .before .before .before in
-    all-three (bytes "pebbles ") (lineFor (s .args .schedule) (s .args .k)) (bytes "\n") (s .args .text .now) (s .args .at) _ _ (c .before .before .before .before .before .before .before .before .before .before .before .put .ensures) _ _ (c .before .before .before .before .before .before .before .put-asked .ensures) _ _ (c .before .before .put2 .ensures)
+    written-three (bytes "pebbles ") (lineFor (s .args .schedule) (s .args .k)) (bytes "\n") (s .args .text .now) (s .args .at) _ _ (c .before .before .before .before .before .before .before .before .before .before .before .put .ensures) _ _ (c .before .before .before .before .before .before .before .put-asked .ensures) _ _ (c .before .before .put2 .ensures)
 
 pub put-head-spec : {M : Type 1} → statement M
 put-head-spec =

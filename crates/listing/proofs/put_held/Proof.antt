@@ -1,8 +1,8 @@
 -- `listing::put_held` meets its contract. Assumes nothing.
 use mathlib.Core.List.{_++_}
 use lib.ListN.{length}
+use Rattle.lists.specs.Written.{first-fits, second-fits, third-of-four-fits, fourth-fits, written-four}
 use Rattle.listing.specs.Listing.{space, field, positionList, heldFields}
-use Rattle.listing.proofs.WriteLaws.{first-fits, second-fits, third-of-four-fits, fourth-fits, all-four}
 use borrow.Author.Needs.{needs}
 use Rattle.listing.proofs.put_held.Statement.{statement}
 use Rattle.listing.proofs.put_held.Tie as tie
@@ -41,7 +41,7 @@ returns : tie.Need-returns
 unfolding heldFields
 returns c =
     let s = c .before .before .before .before .before .before .before .before .before .before .before .before .before .before .before .before .before .before in
-    all-four (field (s .args .round) space) (field (s .args .hashes) space) (field (length (s .args .list .now)) space) (positionList (s .args .list .now)) (s .args .text .now) (s .args .at) _ _ (c .before .before .before .before .before .before .before .before .before .before .before .before .before .before .put-field .ensures) _ _ (c .before .before .before .before .before .before .before .before .before .before .put-field2 .ensures) _ _ (c .before .before .before .before .before .before .put-field3 .ensures) _ _ (c .before .before .put-positions .ensures)
+    written-four (field (s .args .round) space) (field (s .args .hashes) space) (field (length (s .args .list .now)) space) (positionList (s .args .list .now)) (s .args .text .now) (s .args .at) _ _ (c .before .before .before .before .before .before .before .before .before .before .before .before .before .before .put-field .ensures) _ _ (c .before .before .before .before .before .before .before .before .before .before .put-field2 .ensures) _ _ (c .before .before .before .before .before .before .put-field3 .ensures) _ _ (c .before .before .put-positions .ensures)
 
 pub put-held-spec : {M : Type 1} → statement M
 put-held-spec =

@@ -1,9 +1,10 @@
 -- `listing::put_name` meets its contract: every name has seven bytes, and what is not 0, 1 or 2 is optimal. Assumes nothing.
 use native.Mathlib.Omega.{arith}
 use borrow.Author.Needs.{needs}
+use Rattle.lists.specs.Written.{written-as}
 use Rattle.listing.specs.Text.{bytes}
-use Rattle.listing.proofs.TextLaws.{name-length, name-0, name-1, name-2, name-3}
-use Rattle.listing.proofs.WriteLaws.{written-as}
+use Rattle.listing.specs.Lines.{name-length}
+use Rattle.listing.proofs.TextLaws.{name-0, name-1, name-2, name-3}
 use Rattle.listing.proofs.put_name.Statement.{statement}
 use Rattle.listing.proofs.put_name.Tie as tie
 

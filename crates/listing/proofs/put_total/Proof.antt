@@ -1,7 +1,7 @@
 -- `listing::put_total` meets its contract. Assumes nothing.
+use Rattle.lists.specs.Written.{first-fits, next-fits, written-both}
 use Rattle.listing.specs.Text.{bytes}
 use Rattle.listing.specs.Listing.{lineFeed, field, totalLine}
-use Rattle.listing.proofs.WriteLaws.{first-fits, next-fits, both}
 use borrow.Author.Needs.{needs}
 use Rattle.listing.proofs.put_total.Statement.{statement}
 use Rattle.listing.proofs.put_total.Tie as tie
@@ -28,7 +28,7 @@ returns : tie.Need-returns
 unfolding totalLine bytes
 returns c =
     let s = c .before .before .before .before .before .before .before .before .before .before in
-    both (bytes "total ") (field (s .args .hashes) lineFeed) (s .args .text .now) (s .args .at) _ _ (c .before .before .before .before .before .before .put .ensures) _ _ (c .before .before .put-field .ensures)
+    written-both (bytes "total ") (field (s .args .hashes) lineFeed) (s .args .text .now) (s .args .at) _ _ (c .before .before .before .before .before .before .put .ensures) _ _ (c .before .before .put-field .ensures)
 
 pub put-total-spec : {M : Type 1} → statement M
 put-total-spec =

@@ -1,4 +1,4 @@
--- `listing::list_own` meets its contract. The newest y is y_(n-1) for the length n of what is left of 2^k, so the loop over y_n to y_k writes the finished
+-- `position_list::list_own` meets its contract. The newest y is y_(n-1) for the length n of what is left of 2^k, so the loop over y_n to y_k writes the finished
 -- ones; its invariant is that what is still to be stored makes the list that was promised. Assumes nothing.
 use borrow.Author.Needs.{needs}
 use native.Mathlib.Omega.{arith}
@@ -8,8 +8,8 @@ use lib.Pow.{pow-mono}
 use mathlib.Core.Path.{_∙_}
 use Rattle.pebbling.specs.SideBySide.{held-some}
 use Rattle.pebbling.proofs.ListLaws.{Filling, filling-none, filling-step, filling-room, filling-end, newest-top}
-use Rattle.pebbling.proofs.listing.list_own.Statement.{statement}
-use Rattle.pebbling.proofs.listing.list_own.Tie as tie
+use Rattle.pebbling.proofs.position_list.list_own.Statement.{statement}
+use Rattle.pebbling.proofs.position_list.list_own.Tie as tie
 
 abbrev Inv-loop : tie.InvT-loop
 Inv-loop k h base at list₀ whole i₀ next₀ list i next = Filling k base list₀ i₀ next₀ list i next

@@ -1,16 +1,20 @@
--- Pieces written one behind another are one piece, and there is room for each where there is room for all. Assumes nothing.
+-- Pieces written into a list from a place on: two pieces, the second where the first ended, are one piece, and there is room for each
+-- where there is room for all. Assumes nothing.
 use mathlib.Core.Path.{_≡_, refl, sym, ap, _∙_}
 use mathlib.Core.List.{List, [], _∷_, _++_, append-assoc}
-use Prim.Native.Nat.{ℕ, suc, _+_, _-_, _≤_, _<_}
+use Prim.Native.Nat.{ℕ, suc, _+_, _-_, _≤_}
 use native.Mathlib.Nat.{add-zero}
-use native.Mathlib.Numerals.{add-one}
 use native.Mathlib.Omega.{arith}
-use lib.ListN.{length, take, drop, set, length-append, length-drop}
+use lib.ListN.{length, take, drop, set, length-append}
 use lib.Seq.{sets, length-sets, sets-eq, drop-drop, take-append-seam}
 use borrow.Rule.Slice.PartMut.{putMid}
 use Rattle.lists.specs.Parts.{part-tail, put-tail}
 use Rattle.lists.specs.Writing.{over}
-use Rattle.pebbling.specs.Promises.{Written}
+
+-- `piece` is written into `text` from `at` on
+pub record Written (piece : List ℕ) (at : ℕ) (text : List ℕ) (end : ℕ) (text′ : List ℕ) : Type 0 where
+  pub ends : end ≡ at + length piece
+  pub holds : text′ ≡ sets text at piece
 
 sets-append : (l : List ℕ) (i : ℕ) (ps qs : List ℕ) → sets l i (ps ++ qs) ≡ sets (sets l i ps) (i + length ps) qs
 sets-append l i [] qs = rw (add-zero i) refl
@@ -23,12 +27,12 @@ written-length a text text′ at end w = ap length (w .holds) ∙ length-sets te
 pub written-as : (a b text text′ : List ℕ) (at end : ℕ) → a ≡ b → Written a at text end text′ → Written b at text end text′
 written-as a b text text′ at end e w = rw (← e) w
 
--- nothing, and one byte
-pub nothing : (text : List ℕ) (at : ℕ) → Written [] at text at text
-nothing text at = record { ends = sym (add-zero at); holds = refl }
+-- nothing, and one entry
+pub written-none : (text : List ℕ) (at : ℕ) → Written [] at text at text
+written-none text at = record { ends = sym (add-zero at); holds = refl }
 
-pub byte : (b at : ℕ) (text : List ℕ) → Written (b ∷ []) at text (at + 1) (set text at b)
-byte b at text = record { ends = refl; holds = refl }
+pub written-one : (b at : ℕ) (text : List ℕ) → Written (b ∷ []) at text (at + 1) (set text at b)
+written-one b at text = record { ends = refl; holds = refl }
 
 module _ (a b text : List ℕ) (at : ℕ) where
   pub first-fits : at + length (a ++ b) ≤ length text → at + length a ≤ length text
@@ -38,16 +42,16 @@ module _ (a b text : List ℕ) (at : ℕ) where
     pub next-fits : at + length (a ++ b) ≤ length text → mid + length b ≤ length text₁
     next-fits h = omega (arith, w .ends, written-length a text text₁ at mid w, length-append a b)
 
-    pub both : (text₂ : List ℕ) (end : ℕ) → Written b mid text₁ end text₂ → Written (a ++ b) at text end text₂
-    both text₂ end v =
+    pub written-both : (text₂ : List ℕ) (end : ℕ) → Written b mid text₁ end text₂ → Written (a ++ b) at text end text₂
+    written-both text₂ end v =
         record {
           ends = omega (arith, v .ends, w .ends, length-append a b);
           holds = v .holds ∙ rw (w .ends, w .holds, sets-append text at a b) refl;
         }
 
     -- what is left of a piece when its front is written
-    pub rest : (text₂ : List ℕ) (end : ℕ) → Written (a ++ b) at text end text₂ → Written b mid text₁ end text₂
-    rest text₂ end v =
+    pub written-rest : (text₂ : List ℕ) (end : ℕ) → Written (a ++ b) at text end text₂ → Written b mid text₁ end text₂
+    written-rest text₂ end v =
         record {
           ends = omega (arith, v .ends, w .ends, length-append a b);
           holds = v .holds ∙ sets-append text at a b ∙ rw (w .ends, w .holds) refl;
@@ -62,8 +66,8 @@ module _ (a b c text : List ℕ) (at : ℕ) (text₁ : List ℕ) (mid₁ : ℕ) 
     pub third-fits : at + length (a ++ (b ++ c)) ≤ length text → mid₂ + length c ≤ length text₂
     third-fits h = next-fits b c text₁ mid₁ text₂ mid₂ w₂ (next-fits a (b ++ c) text at text₁ mid₁ w₁ h)
 
-    pub all-three : (text₃ : List ℕ) (end : ℕ) → Written c mid₂ text₂ end text₃ → Written (a ++ (b ++ c)) at text end text₃
-    all-three text₃ end w₃ = both a (b ++ c) text at text₁ mid₁ w₁ text₃ end (both b c text₁ mid₁ text₂ mid₂ w₂ text₃ end w₃)
+    pub written-three : (text₃ : List ℕ) (end : ℕ) → Written c mid₂ text₂ end text₃ → Written (a ++ (b ++ c)) at text end text₃
+    written-three text₃ end w₃ = written-both a (b ++ c) text at text₁ mid₁ w₁ text₃ end (written-both b c text₁ mid₁ text₂ mid₂ w₂ text₃ end w₃)
 
 module _ (a b c d text : List ℕ) (at : ℕ) (text₁ : List ℕ) (mid₁ : ℕ) (w₁ : Written a at text mid₁ text₁) (text₂ : List ℕ) (mid₂ : ℕ) (w₂ : Written b mid₁ text₁ mid₂ text₂) where
   pub third-of-four-fits : at + length (a ++ (b ++ (c ++ d))) ≤ length text → mid₂ + length c ≤ length text₂
@@ -73,24 +77,24 @@ module _ (a b c d text : List ℕ) (at : ℕ) (text₁ : List ℕ) (mid₁ : ℕ
     pub fourth-fits : at + length (a ++ (b ++ (c ++ d))) ≤ length text → mid₃ + length d ≤ length text₃
     fourth-fits h = third-fits b c d text₁ mid₁ text₂ mid₂ w₂ text₃ mid₃ w₃ (next-fits a (b ++ (c ++ d)) text at text₁ mid₁ w₁ h)
 
-    pub all-four : (text₄ : List ℕ) (end : ℕ) → Written d mid₃ text₃ end text₄ → Written (a ++ (b ++ (c ++ d))) at text end text₄
-    all-four text₄ end w₄ = both a (b ++ (c ++ d)) text at text₁ mid₁ w₁ text₄ end (all-three b c d text₁ mid₁ text₂ mid₂ w₂ text₃ mid₃ w₃ text₄ end w₄)
+    pub written-four : (text₄ : List ℕ) (end : ℕ) → Written d mid₃ text₃ end text₄ → Written (a ++ (b ++ (c ++ d))) at text end text₄
+    written-four text₄ end w₄ = written-both a (b ++ (c ++ d)) text at text₁ mid₁ w₁ text₄ end (written-three b c d text₁ mid₁ text₂ mid₂ w₂ text₃ mid₃ w₃ text₄ end w₄)
 
 -- what stands in front of the text, when it is written from 0 on
-pub front : (a text text′ : List ℕ) (end : ℕ) → length a ≤ length text → Written a 0 text end text′ → text′ ≡ over a text
-front a text text′ end h w =
+pub written-front : (a text text′ : List ℕ) (end : ℕ) → length a ≤ length text → Written a 0 text end text′ → text′ ≡ over a text
+written-front a text text′ end h w =
     let z : 0 + length a ≡ length a = omega arith in
     w .holds ∙ sets-eq a text 0 (omega arith) ∙ rw z refl
 
-pub front-taken : (a text text′ : List ℕ) (end : ℕ) → length a ≤ length text → Written a 0 text end text′ → take end text′ ≡ a
-front-taken a text text′ end h w =
+pub written-taken : (a text text′ : List ℕ) (end : ℕ) → length a ≤ length text → Written a 0 text end text′ → take end text′ ≡ a
+written-taken a text text′ end h w =
     let z : end ≡ length a = omega (arith, w .ends) in
-    rw (front a text text′ end h w, z) (take-append-seam a (drop (length a) text))
+    rw (written-front a text text′ end h w, z) (take-append-seam a (drop (length a) text))
 
 -- a copy to the text's rest
-pub copied : (piece text part : List ℕ) (at : ℕ) → at + length piece ≤ length text → part ≡ over piece (take (length text - at) (drop at text))
+pub written-part : (piece text part : List ℕ) (at : ℕ) → at + length piece ≤ length text → part ≡ over piece (take (length text - at) (drop at text))
     → Written piece at text (at + length piece) (putMid at (length text - at) text part)
-copied piece text part at h e =
+written-part piece text part at h e =
     let d : drop (length piece) (drop at text) ≡ drop (at + length piece) text = drop-drop (length piece) at text in
     let p : part ≡ piece ++ drop (at + length piece) text = e ∙ rw (part-tail at text, d) refl in
     record {

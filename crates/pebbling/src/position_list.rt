@@ -1,9 +1,9 @@
 // Writes positions into a lent list, pebbler by pebbler in the order in which they fall.
 ghost use Prim.Native.Nat.{suc, _+_, _^_, _≤_, _<_};
 ghost use lib.ListN.{length};
+ghost use Rattle.lists.specs.Written.{Written};
 ghost use Rattle.pebbling.specs.Recursion.{held, positions};
 ghost use Rattle.pebbling.specs.Recursion.{schedule as hashesOf};
-ghost use Rattle.pebbling.specs.Promises.{Written};
 use super::RoundNumber;
 use super::hashes::hashes_done;
 use super::powers::bits;

@@ -1,4 +1,4 @@
--- `listing::list_all` meets its contract. Past round 2^k the pebbler is two of the next lower level: the upper one's positions are written first, and the
+-- `position_list::list_all` meets its contract. Past round 2^k the pebbler is two of the next lower level: the upper one's positions are written first, and the
 -- lower one's where those end, which ListLaws makes one run of stores. The level falls at each call. Assumes nothing.
 use mathlib.Core.Path.{_≡_, _∙_}
 use Prim.Native.Nat.{ℕ, suc, _-_, _<_}
@@ -8,14 +8,14 @@ use borrow.Fn.PlainCycle.{Measures, is, falls, and}
 use Rattle.pebbling.proofs.TallyLaws.{level, lower-asks as lower-round, upper-asks as upper-round}
 use Rattle.pebbling.proofs.ListLaws.{own-asks, own-says, lower-asks, lower-says, first-asks, second-asks, both-say}
 use Rattle.pebbling.specs.Recursion.{schedule}
-use Rattle.pebbling.proofs.listing.list_all.Reads as all
-use Rattle.pebbling.proofs.listing.list_all.Kinds as kinds
-use Rattle.pebbling.proofs.listing.+list_all.Lts-list_all as lts
+use Rattle.pebbling.proofs.position_list.list_all.Reads as all
+use Rattle.pebbling.proofs.position_list.list_all.Kinds as kinds
+use Rattle.pebbling.proofs.position_list.+list_all.Lts-list_all as lts
 use Rattle.pebbling.proofs.hashes.hashes_done.Reads as done
-use Rattle.pebbling.proofs.listing.list_own.Reads as own
+use Rattle.pebbling.proofs.position_list.list_own.Reads as own
 use Rattle.pebbling.proofs.powers.power.Reads as power
-use Rattle.pebbling.proofs.listing.+list_all.{statement}
-use Rattle.pebbling.proofs.listing.+list_all.Tie.{close}
+use Rattle.pebbling.proofs.position_list.+list_all.{statement}
+use Rattle.pebbling.proofs.position_list.+list_all.Tie.{close}
 
 abbrev μ-list-all : Measures 1 kinds.ps ℕ
 μ-list-all κs a = a .1 .0
