@@ -21,10 +21,10 @@ listing-requires : tie.Need-listing-requires
 listing-requires c κs = search needs
 
 array-share-prefix-text : tie.Need-array-share-prefix-text
-array-share-prefix-text c = c .before .listing .ensures .within
+array-share-prefix-text c = c .listing .ensures .within
 
 slice-aggregate-write-all : tie.Need-slice-aggregate-write-all
-slice-aggregate-write-all c = sym (length-take-le _ _ (c .before .before .listing .ensures .within))
+slice-aggregate-write-all c = sym (length-take-le _ _ (c .before .listing .ensures .within))
 
 write-all-requires : tie.Need-write-all-requires
 write-all-requires c κs = search needs
