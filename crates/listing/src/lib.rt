@@ -126,14 +126,7 @@ fn put_answer(round: u32, list: &[u32], answer: RoundAnswer, at: usize, text: &m
 }
 
 // Asks for the positions, runs the card's round and writes its line.
-fn put_round(
-    schedule: u32,
-    k: u32,
-    round: u32,
-    card: &mut [u8],
-    at: usize,
-    text: &mut [u8],
-) -> Line
+fn put_round(schedule: u32, k: u32, round: u32, card: &mut [u8], at: usize, text: &mut [u8]) -> Line
     requires { ⌜ Round schedule k round ⌝ }
     requires { ⌜ now card ≡ cardBefore schedule k round ⌝ }
     requires { ⌜ at + length (roundLine schedule k round) ≤ length (now text) ⌝ }
