@@ -1,5 +1,5 @@
 -- A round's line by its answer: a quiet round's ends in "-", and a tick's in its position. Assumes nothing.
-use mathlib.Core.Path.{_≡_, refl, sym, ap, _∙_}
+use mathlib.Core.Path.{_≡_, refl, _∙_}
 use mathlib.Core.List.{List, [], _∷_, _++_}
 use mathlib.Core.Logic.{inl, inr}
 use Prim.Native.Nat.{ℕ, _+_, _≤_}
@@ -12,8 +12,7 @@ use Rattle.card.specs.Promises.{roundSays, ranSays}
 use Rattle.card.specs.declared.RoundAnswer.{RoundAnswer}
 use Rattle.card.specs.declared.RoundAnswer.the-variants.{Quiet, Tick, Refused}
 use Rattle.lists.specs.Written.{Written, written-none, first-fits, next-fits, written-both}
-use Rattle.refusals.specs.Numbers.{saidOf}
-use Rattle.listing.specs.declared.Line.{Line}
+use Rattle.listing.specs.declared.rounds.Line.{Line}
 use Rattle.listing.specs.Text.{bytes}
 use Rattle.listing.specs.Listing.{lineFeed, field, putOutField, heldFields, lineOf}
 use Rattle.listing.specs.Steps.{Lined, quietLine, quietHashes, answerLine, answerHashes}

@@ -1,18 +1,16 @@
 -- A round of the card that is listed: the position list answers the recursion's positions, and the card's round says the recursion's
 -- hashes and what it puts out, so that the line written is the recursion's. Assumes nothing.
 use mathlib.Core.Path.{_≡_, refl, sym, ap, _∙_}
-use mathlib.Core.Bool.{true}
 use mathlib.Core.List.{List, [], _∷_}
-use Prim.Native.Nat.{ℕ, zero, suc, _+_, _-_, _^_, _≤_, _<_}
-use native.Mathlib.Nat.{mul-le-mul-left}
+use Prim.Native.Nat.{ℕ, zero, suc, _+_, _^_, _≤_, _<_}
 use native.Mathlib.Omega.{arith}
 use borrow.Author.Tests.{ne-eqb, le-ltb}
 use lib.ListN.{length, take, drop, replicate}
 use lib.Pow.{pow-pos}
 use lib.Seq.{take-append-seam}
-use Rattle.card.specs.Promises.{Started, Rounded, startCard, ranSays, roundSaid, roundCard}
+use Rattle.card.specs.Promises.{Started, Rounded, ranSays, roundSaid, roundCard}
 use Rattle.card.specs.Record.{slotBytes, size}
-use Rattle.card.specs.Run.{headAt, Given, after, heldAt, round-passes, after-holds}
+use Rattle.card.specs.Run.{Given, after, round-passes, after-holds}
 use Rattle.card.specs.declared.Answer.{Answer}
 use Rattle.card.specs.declared.RoundAnswer.{RoundAnswer}
 use Rattle.lists.specs.Writing.{over, over-length}
@@ -22,8 +20,8 @@ use Rattle.pebbling.specs.Recursion.{schedule, positions, work, putOut}
 use Rattle.pebbling.specs.declared.PositionsAnswer.{PositionsAnswer}
 use Rattle.pebbling.specs.declared.PositionsAnswer.the-variants.{Listed, Refused}
 use Rattle.refusals.specs.declared.Refusal.{Refusal}
-use Rattle.listing.specs.declared.Line.{Line}
-use Rattle.listing.specs.Listing.{lineOf, roundLine}
+use Rattle.listing.specs.declared.rounds.Line.{Line}
+use Rattle.listing.specs.Listing.{roundLine}
 use Rattle.listing.specs.Steps.{Lined, answerLine, answerHashes, Round, cardBefore}
 use Rattle.listing.proofs.AnswerLaws.{line-told}
 use Rattle.listing.proofs.SizeLaws.{slots-few, held-few}

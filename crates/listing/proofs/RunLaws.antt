@@ -2,18 +2,16 @@
 -- and the card is the one that the round runs on. Assumes nothing.
 use mathlib.Core.Path.{_≡_, refl, sym, ap, _∙_}
 use mathlib.Core.Bool.{true, false, cond}
-use mathlib.Core.List.{List, [], _∷_, _++_}
-use Prim.Native.Nat.{ℕ, zero, suc, _+_, _-_, _*_, _/_, _%_, _^_, _≤_, _<_}
-use native.Mathlib.Nat.{add-zero}
+use mathlib.Core.List.{List, _++_}
+use Prim.Native.Nat.{ℕ, suc, _+_, _-_, _/_, _%_, _^_, _≤_, _<_}
 use native.Mathlib.Numerals.{add-one}
 use native.Mathlib.Omega.{arith}
 use lib.ListN.{length, length-append}
 use lib.Pow.{pow-mono, pow-pos}
-use Rattle.lists.specs.Writing.{over}
-use Rattle.lists.specs.Written.{Written, written-length, written-none, written-both, next-fits, written-three, written-front}
+use Rattle.lists.specs.Written.{Written, written-length, written-none, written-both, written-three, written-front}
 use Rattle.pebbling.specs.Promises.{Power}
 use Rattle.pebbling.specs.Recursion.{total, schedule, work}
-use Rattle.listing.specs.declared.Line.{Line}
+use Rattle.listing.specs.declared.rounds.Line.{Line}
 use Rattle.listing.specs.Text.{bytes}
 use Rattle.listing.specs.Listing.{reads, roundLine, roundLines, lineFor, headLine, totalLine, listingOf, listedBy, listed, Listing}
 use Rattle.listing.specs.Steps.{Lined, Round, cardBefore}

@@ -1,9 +1,8 @@
 -- Document 01's example, that each line that can be read gets its listing, and lines that cannot be read: by computing. Assumes nothing.
 use mathlib.Core.Path.{_≡_, refl}
-use mathlib.Core.List.{List, [], _∷_, _++_, map, flatMap, zipWith}
+use mathlib.Core.List.{List, [], _∷_, _++_, map, flatMap}
 use Prim.Native.Nat.{ℕ, zero, suc, _/_, _%_}
 use Prim.Native.String.{String}
-use lib.ListN.{length}
 use Rattle.pebbling.specs.Len.{len, lenIn}
 use Rattle.pebbling.specs.Recursion.{
   total,

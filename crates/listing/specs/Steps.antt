@@ -1,13 +1,13 @@
 -- What the functions beneath `listing` promise: the piece that each writes, from where on, and the hashes that it tells of. Assumes nothing.
 use mathlib.Core.Path.{_≡_}
 use mathlib.Core.List.{List, [], _∷_}
-use Prim.Native.Nat.{ℕ, suc, _+_, _^_, _≤_, _<_}
-use lib.ListN.{length, replicate}
+use Prim.Native.Nat.{ℕ, suc, _^_, _≤_, _<_}
+use lib.ListN.{replicate}
 use Rattle.card.specs.Run.{heldAt}
 use Rattle.card.specs.declared.RoundAnswer.{RoundAnswer}
 use Rattle.card.specs.declared.RoundAnswer.the-variants.{Quiet, Tick, Refused}
 use Rattle.lists.specs.Written.{Written}
-use Rattle.listing.specs.declared.Line.{Line}
+use Rattle.listing.specs.declared.rounds.Line.{Line}
 use Rattle.listing.specs.Listing.{lineOf}
 
 -- a piece is written from `at` on, and the line tells of so many hashes

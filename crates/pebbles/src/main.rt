@@ -1,5 +1,5 @@
-// The listing program: reads a line and prints what the library makes of it. A line that can be read has ten bytes at most, so
-// 64 bytes of the input decide (listing, `front-decides`), however long it is.
+// The listing program: reads a line and prints what `listing` makes of it. A line that can be read has at most ten bytes, so 64 bytes
+// of the input decide, however long it is (`front-decides`, crates/listing/specs/Lines.antt).
 use libc::STDIN_FILENO;
 use libc::STDOUT_FILENO;
 

@@ -3,12 +3,12 @@ use mathlib.Core.Path.{sym, ap, _∙_}
 use mathlib.Core.List.{List}
 use Prim.Native.Nat.{ℕ}
 use native.Mathlib.Omega.{arith}
+use borrow.Author.Needs.{needs}
 use lib.Seq.{length-take-le}
-use lib.ListN.{length, replicate}
+use lib.ListN.{replicate}
 use Rattle.lists.specs.Written.{written-taken}
 use Rattle.listing.specs.Listing.{lineFor, reads}
 use Rattle.listing.specs.Lines.{asked-short}
-use borrow.Author.Needs.{needs}
 use Rattle.listing.proofs.asks.Statement.{statement}
 use Rattle.listing.proofs.asks.Tie as tie
 

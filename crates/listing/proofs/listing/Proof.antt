@@ -19,16 +19,13 @@ abbrev μ-loop : tie.MeasureT-loop
 
 loop-holds : tie.Need-loop-holds Inv-loop μ-loop
 unfolding listed
-loop-holds c =
-    (omega arith, refl, refl)
+loop-holds c = (omega arith, refl, refl)
 
 sub-i : tie.Need-sub-i Inv-loop μ-loop
-sub-i c =
-    search needs
+sub-i c = search needs
 
 asks-requires : tie.Need-asks-requires Inv-loop μ-loop
-asks-requires c κs =
-    (omega arith, omega arith)
+asks-requires c κs = (omega arith, omega arith)
 
 put-listing-requires : tie.Need-put-listing-requires Inv-loop μ-loop
 put-listing-requires c κs = (omega arith, omega arith, c .put-listing-arg .given .0 .1)
@@ -41,8 +38,7 @@ returns c =
     (l .before .before .args .text .now) _ _ (sym (ap length same) ∙ c .before .put-listing-arg .given .0 .1) (rw same at (c .put-listing .ensures))
 
 loop-less : tie.Need-loop-less Inv-loop μ-loop
-loop-less c =
-    search needs
+loop-less c = search needs
 
 loop-again : tie.Need-loop-again Inv-loop μ-loop
 loop-again c =
@@ -50,8 +46,7 @@ loop-again c =
     (omega arith, l .loop .inv .1, tried _ (l .loop .i) (l .loop .inv .2) (c .before .before .loop-test .taken) (sym (c .if1 .left) ∙ c .before .asks .ensures))
 
 slice-aggregate-put : tie.Need-slice-aggregate-put Inv-loop μ-loop
-slice-aggregate-put c =
-    search needs
+slice-aggregate-put c = search needs
 
 put-requires : tie.Need-put-requires Inv-loop μ-loop
 put-requires c κs = omega (arith, c .put-arg2 .given .0 .1)

@@ -1,9 +1,9 @@
--- `listing::put_asked` meets its contract. Assumes nothing.
+-- `listing::put_asked` meets its contract: a name, a space and k, each written where the one before it ended. Assumes nothing.
 use mathlib.Core.List.{[], _∷_}
+use borrow.Author.Needs.{needs}
 use Rattle.lists.specs.Written.{first-fits, second-fits, third-fits, written-three}
 use Rattle.listing.specs.Text.{decimal}
 use Rattle.listing.specs.Listing.{space, nameOf, lineFor}
-use borrow.Author.Needs.{needs}
 use Rattle.listing.proofs.put_asked.Statement.{statement}
 use Rattle.listing.proofs.put_asked.Tie as tie
 
@@ -19,14 +19,17 @@ slice-aggregate-put c = search needs
 put-requires : tie.Need-put-requires
 unfolding lineFor
 put-requires c κs =
-    let s = c .before .before .before .before .before .before .before in
-    second-fits (nameOf (s .args .schedule)) (space ∷ []) (decimal (s .args .k)) (s .args .text .now) (s .args .at) _ _ (c .before .before .before .before .put-name .ensures) (s .pre)
+    let at-put-name = c .before .before .before .before in
+    let s = at-put-name .before .before .before in
+    second-fits (nameOf (s .args .schedule)) (space ∷ []) (decimal (s .args .k)) (s .args .text .now) (s .args .at) _ _ (at-put-name .put-name .ensures) (s .pre)
 
 put-decimal-requires : tie.Need-put-decimal-requires
 unfolding lineFor
 put-decimal-requires c κs =
-    let s = c .before .before .before .before .before .before .before .before .before .before .before in
-    third-fits (nameOf (s .args .schedule)) (space ∷ []) (decimal (s .args .k)) (s .args .text .now) (s .args .at) _ _ (c .before .before .before .before .before .before .before .before .put-name .ensures) _ _ (c .before .before .before .put .ensures) (s .pre)
+    let at-put = c .before .before .before in
+    let at-put-name = at-put .before .before .before .before .before in
+    let s = at-put-name .before .before .before in
+    third-fits (nameOf (s .args .schedule)) (space ∷ []) (decimal (s .args .k)) (s .args .text .now) (s .args .at) _ _ (at-put-name .put-name .ensures) _ _ (at-put .put .ensures) (s .pre)
 
 same-length : tie.Need-same-length
 same-length c = search needs
@@ -34,8 +37,11 @@ same-length c = search needs
 returns : tie.Need-returns
 unfolding lineFor
 returns c =
-    let s = c .before .before .before .before .before .before .before .before .before .before .before .before .before .before in
-    written-three (nameOf (s .args .schedule)) (space ∷ []) (decimal (s .args .k)) (s .args .text .now) (s .args .at) _ _ (c .before .before .before .before .before .before .before .before .before .before .before .put-name .ensures) _ _ (c .before .before .before .before .before .before .put .ensures) _ _ (c .before .before .put-decimal .ensures)
+    let at-put-decimal = c .before .before in
+    let at-put = at-put-decimal .before .before .before .before in
+    let at-put-name = at-put .before .before .before .before .before in
+    let s = at-put-name .before .before .before in
+    written-three (nameOf (s .args .schedule)) (space ∷ []) (decimal (s .args .k)) (s .args .text .now) (s .args .at) _ _ (at-put-name .put-name .ensures) _ _ (at-put .put .ensures) _ _ (at-put-decimal .put-decimal .ensures)
 
 pub put-asked-spec : {M : Type 1} → statement M
 put-asked-spec =

@@ -1,7 +1,8 @@
--- `listing::put_listing` meets its contract. Assumes nothing.
+-- `listing::put_listing` meets its contract. The card that is started is the one before round 1, and the first line, the lines of the rounds
+-- and the last line fit the text (RunLaws). Assumes nothing.
+use borrow.Author.Needs.{needs}
 use Rattle.listing.proofs.RoundLaws.{card-started}
 use Rattle.listing.proofs.RunLaws.{head-fits, rounds-fit, total-fits, listing-says}
-use borrow.Author.Needs.{needs}
 use Rattle.listing.proofs.put_listing.Statement.{statement}
 use Rattle.listing.proofs.put_listing.Tie as tie
 
@@ -24,21 +25,28 @@ slice-aggregate-put-rounds c = search needs
 
 put-rounds-requires : tie.Need-put-rounds-requires
 put-rounds-requires c κs =
-    let s = c .before .before .before .before .before .before .before .before .before .before .before in
-    ((s .pre .0, s .pre .1), (card-started (s .args .schedule) (s .args .k) (s .pre .0) (s .pre .1) _ _ (c .before .before .before .before .before .before .before .start .ensures), rounds-fit (s .args .schedule) (s .args .k) (s .args .text .now) (s .pre .0) (s .pre .1) (s .pre .2) _ _ (c .before .before .before .before .put-head .ensures)))
+    let at-put-head = c .before .before .before .before in
+    let at-start = at-put-head .before .before .before in
+    let s = at-start .before .before .before .before in
+    ((s .pre .0, s .pre .1), (card-started (s .args .schedule) (s .args .k) (s .pre .0) (s .pre .1) _ _ (at-start .start .ensures), rounds-fit (s .args .schedule) (s .args .k) (s .args .text .now) (s .pre .0) (s .pre .1) (s .pre .2) _ _ (at-put-head .put-head .ensures)))
 
 put-total-requires : tie.Need-put-total-requires
 put-total-requires c κs =
-    let s = c .before .before .before .before .before .before .before .before .before .before .before .before .before .before .before .before in
-    total-fits (s .args .schedule) (s .args .k) (s .args .text .now) (s .pre .0) (s .pre .1) (s .pre .2) _ _ (c .before .before .before .before .before .before .before .before .before .put-head .ensures) _ _ (c .before .before .before .before .put-rounds .ensures)
+    let at-put-rounds = c .before .before .before .before in
+    let at-put-head = at-put-rounds .before .before .before .before .before in
+    let s = at-put-head .before .before .before .before .before .before .before in
+    total-fits (s .args .schedule) (s .args .k) (s .args .text .now) (s .pre .0) (s .pre .1) (s .pre .2) _ _ (at-put-head .put-head .ensures) _ _ (at-put-rounds .put-rounds .ensures)
 
 same-length : tie.Need-same-length
 same-length c = search needs
 
 returns : tie.Need-returns
 returns c =
-    let s = c .before .before .before .before .before .before .before .before .before .before .before .before .before .before .before .before .before .before .before in
-    listing-says (s .args .schedule) (s .args .k) (s .args .text .now) (s .pre .0) (s .pre .1) (s .pre .2) _ _ (c .before .before .before .before .before .before .before .before .before .before .before .before .put-head .ensures) _ _ (c .before .before .before .before .before .before .before .put-rounds .ensures) _ _ (c .before .before .put-total .ensures)
+    let at-put-total = c .before .before in
+    let at-put-rounds = at-put-total .before .before .before .before .before in
+    let at-put-head = at-put-rounds .before .before .before .before .before in
+    let s = at-put-head .before .before .before .before .before .before .before in
+    listing-says (s .args .schedule) (s .args .k) (s .args .text .now) (s .pre .0) (s .pre .1) (s .pre .2) _ _ (at-put-head .put-head .ensures) _ _ (at-put-rounds .put-rounds .ensures) _ _ (at-put-total .put-total .ensures)
 
 pub put-listing-spec : {M : Type 1} → statement M
 put-listing-spec =

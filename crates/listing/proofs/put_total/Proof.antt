@@ -1,8 +1,8 @@
--- `listing::put_total` meets its contract. Assumes nothing.
+-- `listing::put_total` meets its contract: two pieces, the second written where the first ended. Assumes nothing.
+use borrow.Author.Needs.{needs}
 use Rattle.lists.specs.Written.{first-fits, next-fits, written-both}
 use Rattle.listing.specs.Text.{bytes}
 use Rattle.listing.specs.Listing.{lineFeed, field, totalLine}
-use borrow.Author.Needs.{needs}
 use Rattle.listing.proofs.put_total.Statement.{statement}
 use Rattle.listing.proofs.put_total.Tie as tie
 
@@ -18,8 +18,9 @@ put-requires c κs =
 put-field-requires : tie.Need-put-field-requires
 unfolding totalLine bytes
 put-field-requires c κs =
-    let s = c .before .before .before .before .before .before .before in
-    next-fits (bytes "total ") (field (s .args .hashes) lineFeed) (s .args .text .now) (s .args .at) _ _ (c .before .before .before .put .ensures) (s .pre)
+    let at-put = c .before .before .before in
+    let s = at-put .before .before .before .before in
+    next-fits (bytes "total ") (field (s .args .hashes) lineFeed) (s .args .text .now) (s .args .at) _ _ (at-put .put .ensures) (s .pre)
 
 same-length : tie.Need-same-length
 same-length c = search needs
@@ -27,8 +28,10 @@ same-length c = search needs
 returns : tie.Need-returns
 unfolding totalLine bytes
 returns c =
-    let s = c .before .before .before .before .before .before .before .before .before .before in
-    written-both (bytes "total ") (field (s .args .hashes) lineFeed) (s .args .text .now) (s .args .at) _ _ (c .before .before .before .before .before .before .put .ensures) _ _ (c .before .before .put-field .ensures)
+    let at-put-field = c .before .before in
+    let at-put = at-put-field .before .before .before .before in
+    let s = at-put .before .before .before .before in
+    written-both (bytes "total ") (field (s .args .hashes) lineFeed) (s .args .text .now) (s .args .at) _ _ (at-put .put .ensures) _ _ (at-put-field .put-field .ensures)
 
 pub put-total-spec : {M : Type 1} → statement M
 put-total-spec =

@@ -1,7 +1,7 @@
--- `listing::mark_before` meets its contract. Assumes nothing.
+-- `listing::rounds::mark_before` meets its contract. Assumes nothing.
 use Rattle.listing.proofs.TextLaws.{mark-last, mark-between}
-use Rattle.listing.proofs.mark_before.Statement.{statement}
-use Rattle.listing.proofs.mark_before.Tie as tie
+use Rattle.listing.proofs.rounds.mark_before.Statement.{statement}
+use Rattle.listing.proofs.rounds.mark_before.Tie as tie
 
 returns : tie.Need-returns
 returns c = mark-last _ (c .if1 .taken)

@@ -1,8 +1,8 @@
--- `listing::put` meets its contract: a copy to the front of the text's rest is the piece written from `at` on. Assumes nothing.
+-- `listing::text::put` meets its contract: a copy to the front of the text's rest is the piece written from `at` on. Assumes nothing.
 use borrow.Author.Needs.{needs}
 use Rattle.lists.specs.Written.{written-part}
-use Rattle.listing.proofs.put.Statement.{statement}
-use Rattle.listing.proofs.put.Tie as tie
+use Rattle.listing.proofs.text.put.Statement.{statement}
+use Rattle.listing.proofs.text.put.Tie as tie
 
 sub-copy : tie.Need-sub-copy
 sub-copy c = search needs

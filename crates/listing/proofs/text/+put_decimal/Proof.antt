@@ -1,18 +1,18 @@
--- `listing::put_decimal` meets its contract: the digits but the last are those of n / 10, which is below n, and the last is n % 10.
+-- `listing::text::put_decimal` meets its contract: the digits but the last are those of n / 10, which is below n, and the last is n % 10.
 -- Assumes nothing.
 use mathlib.Core.Path.{_∙_}
 use Prim.Native.Nat.{ℕ, _<_}
 use native.Mathlib.Omega.{arith}
-use lib.ListN.{length-set}
 use borrow.Fn.Kinds.{In}
 use borrow.Fn.PlainCycle.{Measures, is, falls, and}
+use lib.ListN.{length-set}
 use Rattle.listing.proofs.TextLaws.{digit-fits, digit-says, front-fits, last-fits, last-says}
-use Rattle.listing.proofs.put_decimal.Reads as decimal
-use Rattle.listing.proofs.put_decimal.Kinds as kinds
-use Rattle.listing.proofs.+put_decimal.Lts-put_decimal as lts
-use Rattle.listing.proofs.digit.Reads as digit
-use Rattle.listing.proofs.+put_decimal.{statement}
-use Rattle.listing.proofs.+put_decimal.Tie.{close}
+use Rattle.listing.proofs.text.put_decimal.Reads as decimal
+use Rattle.listing.proofs.text.put_decimal.Kinds as kinds
+use Rattle.listing.proofs.text.+put_decimal.Lts-put_decimal as lts
+use Rattle.listing.proofs.text.digit.Reads as digit
+use Rattle.listing.proofs.text.+put_decimal.{statement}
+use Rattle.listing.proofs.text.+put_decimal.Tie.{close}
 
 abbrev μ-put-decimal : Measures 1 kinds.ps ℕ
 μ-put-decimal κs a = a .0

@@ -1,12 +1,12 @@
--- `listing::put_field` meets its contract: the number's digits, and the mark behind them. Assumes nothing.
+-- `listing::text::put_field` meets its contract: the number's digits, and the mark behind them. Assumes nothing.
 use mathlib.Core.List.{[], _∷_}
 use native.Mathlib.Omega.{arith}
+use borrow.Author.Needs.{needs}
 use Rattle.lists.specs.Written.{first-fits, next-fits, written-both, written-one}
 use Rattle.listing.specs.Text.{decimal}
 use Rattle.listing.specs.Listing.{field}
-use borrow.Author.Needs.{needs}
-use Rattle.listing.proofs.put_field.Statement.{statement}
-use Rattle.listing.proofs.put_field.Tie as tie
+use Rattle.listing.proofs.text.put_field.Statement.{statement}
+use Rattle.listing.proofs.text.put_field.Tie as tie
 
 put-decimal-requires : tie.Need-put-decimal-requires
 unfolding field
