@@ -76,7 +76,7 @@ fn put_answer(round: u32, list: &[u32], answer: RoundAnswer, at: usize, text: &m
     Line { end, hashes }
 }
 
-// Asks for the positions, runs the card's round and writes its line.
+// Asks for the positions, runs the card's round and writes its line. With k up to 10 no card holds more than 18 values.
 fn put_round(schedule: u32, k: u32, round: u32, card: &mut [u8], at: usize, text: &mut [u8]) -> Line
     requires { ⌜ Round schedule k round ⌝ }
     requires { ⌜ now card ≡ cardBefore schedule k round ⌝ }

@@ -8,6 +8,7 @@ ghost use Rattle.listing.specs.Text.{decimal};
 ghost use Rattle.listing.specs.Text.{digit as digitOf};
 ghost use Rattle.listing.specs.Listing.{field};
 
+// Bytes as they are.
 pub fn put(piece: &[u8], at: usize, text: &mut [u8]) -> usize
     requires { ⌜ at + length (now piece) ≤ length (now text) ⌝ }
     ensures { λ end. ⌜ Written (now (piece .entry)) at (now (text .entry)) end (now (text .exit)) ⌝ }
