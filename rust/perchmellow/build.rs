@@ -1,0 +1,29 @@
+//! Builds the proved library with `rt staticlib` and links it. Where nothing changed since the last proof this takes a moment.
+
+use std::path::Path;
+use std::process::{exit, Command};
+
+fn main() {
+    let here = std::env::var("CARGO_MANIFEST_DIR").expect("cargo names the package's folder");
+    let root = Path::new(&here).ancestors().nth(2).expect("the package stands in rust/").to_path_buf();
+    for watched in ["crates", "crates.txt"] {
+        println!("cargo:rerun-if-changed={}", root.join(watched).display());
+    }
+    let library = root.join("target").join("staticlib");
+    println!("cargo:rerun-if-changed={}", library.join("libperchmellow.a").display());
+
+    match Command::new("rt").args(["staticlib", "perchmellow"]).current_dir(&root).output() {
+        Ok(done) if done.status.success() => {}
+        Ok(done) => {
+            eprint!("{}{}", String::from_utf8_lossy(&done.stdout), String::from_utf8_lossy(&done.stderr));
+            eprintln!("perchmellow: 'rt staticlib perchmellow' did not prove and build the library; what it said stands above.");
+            exit(1);
+        }
+        Err(why) => {
+            eprintln!("perchmellow: rt, the prover's command, could not be run ({why}); put the bin folder of the Rattle kit on the PATH and build again.");
+            exit(1);
+        }
+    }
+    println!("cargo:rustc-link-search=native={}", library.display());
+    println!("cargo:rustc-link-lib=static=perchmellow");
+}
