@@ -1,0 +1,54 @@
+//! Numbers for tests, the same in every run: splitmix64.
+
+pub struct Random(u64);
+
+impl Random {
+    pub fn new(seed: u64) -> Random {
+        Random(seed)
+    }
+
+    pub fn next(&mut self) -> u64 {
+        self.0 = self.0.wrapping_add(0x9e37_79b9_7f4a_7c15);
+        let mut z = self.0;
+        z = (z ^ (z >> 30)).wrapping_mul(0xbf58_476d_1ce4_e5b9);
+        z = (z ^ (z >> 27)).wrapping_mul(0x94d0_49bb_1331_11eb);
+        z ^ (z >> 31)
+    }
+
+    /// A number below n.
+    pub fn below(&mut self, n: u32) -> u32 {
+        ((self.next() >> 32) * u64::from(n) >> 32) as u32
+    }
+
+    /// A number from `least` to `most`.
+    pub fn within(&mut self, least: u32, most: u32) -> u32 {
+        least + self.below(most - least + 1)
+    }
+
+    /// True once in n.
+    pub fn once_in(&mut self, n: u32) -> bool {
+        self.below(n) == 0
+    }
+
+    pub fn one_of<T: Copy>(&mut self, of: &[T]) -> T {
+        of[self.below(of.len() as u32) as usize]
+    }
+
+    pub fn bytes(&mut self, n: usize) -> Vec<u8> {
+        (0..n).map(|_| self.next() as u8).collect()
+    }
+
+    /// So many bytes and up to `more` behind them.
+    pub fn buffer(&mut self, least: usize, more: u32) -> Vec<u8> {
+        let n = least + self.within(0, more) as usize;
+        self.bytes(n)
+    }
+
+    /// A value; now and then one of zeros, which a slot may hold as well as any other.
+    pub fn value(&mut self) -> [u8; 16] {
+        if self.once_in(16) {
+            return [0; 16];
+        }
+        std::array::from_fn(|_| self.next() as u8)
+    }
+}
