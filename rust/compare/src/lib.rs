@@ -2,8 +2,10 @@
 //! agree; the tests and the benchmark are written over these.
 
 pub mod both;
+mod cases;
 mod random;
 
+pub use cases::cases;
 pub use random::Random;
 
 /// What a round answered: the position of the tick that it put out, if any, and its hashes.
@@ -21,38 +23,64 @@ pub struct Listed {
 }
 
 /// The seven calls. A refusal is its number.
-pub struct Calls {
-    pub name: &'static str,
-    pub start: fn(u32, u32, u32, &[u8], &mut [u8]) -> Result<(), u8>,
-    pub round: fn(&mut [u8], &mut [u8]) -> Result<Turn, u8>,
-    pub positions: fn(u32, u32, u32, &mut [u32]) -> Result<Listed, u8>,
-    pub anchor: fn(u32, u32, &[u8], &mut [u8]) -> Result<(), u8>,
-    pub enrol: fn(u32, u32, &[u8], &mut [u8]) -> Result<(), u8>,
-    pub offer: fn(&mut [u8], &[u8], u32) -> Result<u32, u8>,
-    pub settle: fn(u32, u32, &[u8], &[u8], u32) -> Result<bool, u8>,
+pub trait Calls: Sync {
+    fn name(&self) -> &'static str;
+    fn start(&self, function: u32, k: u32, schedule: u32, seed: &[u8], record: &mut [u8]) -> Result<(), u8>;
+    fn round(&self, record: &mut [u8], out: &mut [u8]) -> Result<Turn, u8>;
+    fn positions(&self, k: u32, schedule: u32, round: u32, list: &mut [u32]) -> Result<Listed, u8>;
+    fn anchor(&self, function: u32, k: u32, seed: &[u8], out: &mut [u8]) -> Result<(), u8>;
+    fn enrol(&self, function: u32, k: u32, anchor: &[u8], record: &mut [u8]) -> Result<(), u8>;
+    fn offer(&self, record: &mut [u8], value: &[u8], gap: u32) -> Result<u32, u8>;
+    fn settle(&self, function: u32, k: u32, anchor: &[u8], last: &[u8], paid: u32) -> Result<bool, u8>;
 }
 
+pub struct Proved;
+pub struct Plain;
+
 macro_rules! calls_of {
-    ($name:literal, $of:ident) => {
-        Calls {
-            name: $name,
-            start: |function, k, schedule, seed, record| $of::start(function, k, schedule, seed, record).map_err($of::Refusal::number),
-            round: |record, out| match $of::round(record, out) {
-                Ok($of::Round::Quiet { hashes }) => Ok(Turn { position: None, hashes }),
-                Ok($of::Round::Tick { position, hashes }) => Ok(Turn { position: Some(position), hashes }),
-                Err(why) => Err(why.number()),
-            },
-            positions: |k, schedule, round, list| match $of::positions(k, schedule, round, list) {
-                Ok($of::Listed { held, hashes }) => Ok(Listed { held, hashes }),
-                Err(why) => Err(why.number()),
-            },
-            anchor: |function, k, seed, out| $of::anchor(function, k, seed, out).map_err($of::Refusal::number),
-            enrol: |function, k, anchor, record| $of::enrol(function, k, anchor, record).map_err($of::Refusal::number),
-            offer: |record, value, gap| $of::offer(record, value, gap).map_err($of::Refusal::number),
-            settle: |function, k, anchor, last, paid| $of::settle(function, k, anchor, last, paid).map_err($of::Refusal::number),
+    ($who:ident, $name:literal, $of:ident) => {
+        impl Calls for $who {
+            fn name(&self) -> &'static str {
+                $name
+            }
+
+            fn start(&self, function: u32, k: u32, schedule: u32, seed: &[u8], record: &mut [u8]) -> Result<(), u8> {
+                $of::start(function, k, schedule, seed, record).map_err($of::Refusal::number)
+            }
+
+            fn round(&self, record: &mut [u8], out: &mut [u8]) -> Result<Turn, u8> {
+                match $of::round(record, out) {
+                    Ok($of::Round::Quiet { hashes }) => Ok(Turn { position: None, hashes }),
+                    Ok($of::Round::Tick { position, hashes }) => Ok(Turn { position: Some(position), hashes }),
+                    Err(why) => Err(why.number()),
+                }
+            }
+
+            fn positions(&self, k: u32, schedule: u32, round: u32, list: &mut [u32]) -> Result<Listed, u8> {
+                match $of::positions(k, schedule, round, list) {
+                    Ok($of::Listed { held, hashes }) => Ok(Listed { held, hashes }),
+                    Err(why) => Err(why.number()),
+                }
+            }
+
+            fn anchor(&self, function: u32, k: u32, seed: &[u8], out: &mut [u8]) -> Result<(), u8> {
+                $of::anchor(function, k, seed, out).map_err($of::Refusal::number)
+            }
+
+            fn enrol(&self, function: u32, k: u32, anchor: &[u8], record: &mut [u8]) -> Result<(), u8> {
+                $of::enrol(function, k, anchor, record).map_err($of::Refusal::number)
+            }
+
+            fn offer(&self, record: &mut [u8], value: &[u8], gap: u32) -> Result<u32, u8> {
+                $of::offer(record, value, gap).map_err($of::Refusal::number)
+            }
+
+            fn settle(&self, function: u32, k: u32, anchor: &[u8], last: &[u8], paid: u32) -> Result<bool, u8> {
+                $of::settle(function, k, anchor, last, paid).map_err($of::Refusal::number)
+            }
         }
     };
 }
 
-pub static PROVED: Calls = calls_of!("proved", perchmellow);
-pub static PLAIN: Calls = calls_of!("plain", plain);
+calls_of!(Proved, "proved", perchmellow);
+calls_of!(Plain, "plain", plain);
