@@ -6,6 +6,7 @@ use compare::{Calls, Plain, Proved};
 use perchmellow::{card_len, CARD_HEAD_LEN, OPTIMAL, POSITIONS_MOST, POST_LEN};
 
 use crate::clock::time;
+use crate::on_bytes;
 
 pub const FUNCTIONS: [(u32, &str); 2] = [(0, "MD5"), (1, "AES")];
 const SEED: [u8; 16] = *b"a seed for bench";
@@ -35,24 +36,28 @@ pub struct Spread {
     pub ratio: Figures,
 }
 
-/// Seconds that `measure` says for each of the two, so many times in turns, after one turn that does not count.
-fn in_turns(times: usize, measure: impl Fn(&dyn Calls) -> f64) -> Spread {
-    let (mut proved, mut plain) = (vec![], vec![]);
+/// Seconds that each of the two says, so many times in turns, after one turn that does not count.
+fn pairs(times: usize, proved: impl Fn() -> f64, plain: impl Fn() -> f64) -> Spread {
+    let mut said = vec![];
     for turn in 0..=times {
         let pair = if turn % 2 == 0 {
-            let first = measure(black_box(&Proved));
-            (first, measure(black_box(&Plain)))
+            let first = proved();
+            (first, plain())
         } else {
-            let first = measure(black_box(&Plain));
-            (measure(black_box(&Proved)), first)
+            let first = plain();
+            (proved(), first)
         };
         if turn > 0 {
-            proved.push(pair.0);
-            plain.push(pair.1);
+            said.push(pair);
         }
     }
-    let ratio = proved.iter().zip(&plain).map(|(proved, plain)| proved / plain).collect();
-    Spread { proved: Figures::of(proved), plain: Figures::of(plain), ratio: Figures::of(ratio) }
+    let figures = |of: fn(&(f64, f64)) -> f64| Figures::of(said.iter().map(of).collect());
+    Spread { proved: figures(|pair| pair.0), plain: figures(|pair| pair.1), ratio: figures(|pair| pair.0 / pair.1) }
+}
+
+/// The same measure of both.
+fn in_turns(times: usize, measure: impl Fn(&dyn Calls) -> f64) -> Spread {
+    pairs(times, || measure(black_box(&Proved)), || measure(black_box(&Plain)))
 }
 
 fn start(calls: &dyn Calls, function: u32, k: u32) -> Vec<u8> {
@@ -85,17 +90,35 @@ pub fn whole_runs(function: u32) -> Spread {
     })
 }
 
-/// One hash.
+const HASHES: u32 = (1 << 20) - 1;
+
+/// One hash, by a chain of 2^20.
 pub fn hash(function: u32) -> Spread {
-    let anchor = |calls: &dyn Calls, k| {
+    in_turns(7, |calls| hash_by_anchors(calls, function))
+}
+
+/// One AES, where the plain one keeps to bytes.
+pub fn hash_on_bytes() -> Spread {
+    let walk = |steps| (0..steps).fold(black_box(SEED), |value, _| on_bytes::next(value));
+    let mut proved = [0; 16];
+    Proved.anchor(1, 3, &SEED, &mut proved).expect("an anchor can be had");
+    assert_eq!(proved, walk(8), "the two work out the same");
+    let on_bytes = || {
+        time(|| {
+            black_box(walk(HASHES));
+        }) / f64::from(HASHES)
+    };
+    pairs(7, || hash_by_anchors(black_box(&Proved), 1), on_bytes)
+}
+
+fn hash_by_anchors(calls: &dyn Calls, function: u32) -> f64 {
+    let anchor = |k| {
         let mut out = [0; 16];
         calls.anchor(function, k, black_box(&SEED), black_box(&mut out)).expect("an anchor can be had");
         black_box(out);
     };
-    in_turns(7, |calls| {
-        let beside = time(|| (0..1000).for_each(|_| anchor(calls, 0))) / 1000.0;
-        (time(|| anchor(calls, 20)) - beside) / f64::from((1 << 20) - 1)
-    })
+    let beside = time(|| (0..1000).for_each(|_| anchor(0))) / 1000.0;
+    (time(|| anchor(20)) - beside) / f64::from(HASHES)
 }
 
 /// One offer at G = 64: of a value that is 64 steps from the one held, or one that does not lead there.
@@ -140,13 +163,17 @@ fn record_at(function: u32, k: u32, round: u32, chain: &[[u8; 16]]) -> Vec<u8> {
     record
 }
 
-/// One paying round: its hashes, and its time. Up to k = 16 the mean is over all of them, else over 16 stretches of 6250.
+/// One paying round: its hashes, and its time. Up to k = 16 the mean is over all of them, else over 16 stretches of 6250, spread over
+/// the card by the golden section.
 pub fn paying_rounds(function: u32, k: u32, chain: &[[u8; 16]]) -> (f64, Spread) {
     let ticks = 1u32 << k;
-    let stretches: Vec<u32> =
-        if k <= 16 { vec![ticks; 20_000_u32.div_ceil(ticks) as usize] } else { (0..16).map(|i| ticks + ticks / 16 * i).collect() };
-    let rounds = if k <= 16 { ticks } else { 6250 };
-    let records: Vec<Vec<u8>> = stretches.iter().map(|round| record_at(function, k, *round, chain)).collect();
+    let (rounds, from): (u32, Vec<u32>) = if k <= 16 {
+        (ticks, vec![ticks; 20_000_u32.div_ceil(ticks) as usize])
+    } else {
+        let spread = |i: u32| (i.wrapping_mul(0x9e37_79b1) >> (32 - k)).min(ticks - 6250);
+        (6250, (0..16).map(|i| ticks + spread(i)).collect())
+    };
+    let records: Vec<Vec<u8>> = from.iter().map(|round| record_at(function, k, *round, chain)).collect();
     let all = f64::from(rounds) * records.len() as f64;
     let run_all = |calls: &dyn Calls, records: &mut [Vec<u8>]| -> u64 {
         let mut out = [0; 16];
