@@ -6,7 +6,7 @@ mod measure;
 mod on_bytes;
 mod table;
 
-use measure::{chain, hash, hash_on_bytes, offer, paying_rounds, whole_runs, Spread, FUNCTIONS};
+use measure::{chain, hash, hash_on_bytes, offer, paying_rounds, whole_runs, Figures, Paying, Spread, FUNCTIONS};
 use table::{table, text};
 
 fn main() {
@@ -26,7 +26,9 @@ fn main() {
         clock::machine(),
         clock::WHAT
     ));
-    println!();
+    if !markdown {
+        println!();
+    }
 
     say("Start and all 131,071 rounds of a card of 2^16 ticks under the optimal schedule: 524,288 hashes.");
     let mut rows = vec![];
@@ -38,10 +40,9 @@ fn main() {
 
     say("One hash: an anchor at k = 20 less one at k = 0, through 1,048,575. Plain Rust's AES looks up whole columns in tables; the last \
          row has one that keeps to bytes and the S-box, as the proved code has to.");
-    let hashes = FUNCTIONS.map(|(function, _)| hash(function));
     let mut rows = vec![];
-    let named = FUNCTIONS.iter().zip(&hashes).map(|((_, name), spread)| (*name, spread));
-    for (name, Spread { proved, plain, ratio }) in named.chain([("AES, plain on bytes", &hash_on_bytes())]) {
+    let named = FUNCTIONS.map(|(function, name)| (name, hash(function)));
+    for (name, Spread { proved, plain, ratio }) in named.into_iter().chain([("AES, plain on bytes", hash_on_bytes())]) {
         rows.push(vec![name.into(), proved.shown(1e9, 1), plain.shown(1e9, 1), ratio.shown(1.0, 2)]);
     }
     table(markdown, &["One hash", "Proved, ns", "Plain, ns", "Ratio"], &rows);
@@ -56,24 +57,24 @@ fn main() {
     }
     table(markdown, &["One offer", "Proved, µs", "Plain, µs", "Ratio"], &rows);
 
-    for ((function, name), hash) in FUNCTIONS.iter().zip(&hashes) {
+    for (function, name) in FUNCTIONS {
         say(&format!(
             "One paying round under the optimal schedule, {name}: the mean over all of them up to k = 16, and from there on over 100,000 in \
-             16 stretches of the card. \"Beside\" is the round less its hashes, at one hash's time from above."
+             16 stretches of the card. \"Beside\" is the round less its hashes, at the time of one hash in the same turn."
         ));
-        let chain = chain(*function);
+        let chain = chain(function);
         let mut rows = vec![];
         for k in 4..=20 {
-            let (each, Spread { proved, plain, ratio }) = paying_rounds(*function, k, &chain);
-            let beside = |all: f64, one: f64| format!("{:.0}", (all - each * one) * 1e9);
+            let Paying { hashes, each, beside } = paying_rounds(function, k, &chain);
+            let ns = |figures: &Figures| format!("{:.0}", figures.median * 1e9);
             rows.push(vec![
                 k.to_string(),
-                format!("{each:.2}"),
-                format!("{:.0}", proved.median * 1e9),
-                beside(proved.median, hash.proved.median),
-                format!("{:.0}", plain.median * 1e9),
-                beside(plain.median, hash.plain.median),
-                ratio.shown(1.0, 2),
+                format!("{hashes:.2}"),
+                ns(&each.proved),
+                ns(&beside.proved),
+                ns(&each.plain),
+                ns(&beside.plain),
+                each.ratio.shown(1.0, 2),
             ]);
         }
         let heads = ["k", "Hashes a round", "Proved, ns", "beside", "Plain, ns", "beside", "Ratio"];

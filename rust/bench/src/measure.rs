@@ -36,8 +36,8 @@ pub struct Spread {
     pub ratio: Figures,
 }
 
-/// Seconds that each of the two says, so many times in turns, after one turn that does not count.
-fn pairs(times: usize, proved: impl Fn() -> f64, plain: impl Fn() -> f64) -> Spread {
+/// Figures that each of the two says, so many times in turns, after one turn that does not count.
+fn pairs<const N: usize>(times: usize, proved: impl Fn() -> [f64; N], plain: impl Fn() -> [f64; N]) -> [Spread; N] {
     let mut said = vec![];
     for turn in 0..=times {
         let pair = if turn % 2 == 0 {
@@ -51,12 +51,14 @@ fn pairs(times: usize, proved: impl Fn() -> f64, plain: impl Fn() -> f64) -> Spr
             said.push(pair);
         }
     }
-    let figures = |of: fn(&(f64, f64)) -> f64| Figures::of(said.iter().map(of).collect());
-    Spread { proved: figures(|pair| pair.0), plain: figures(|pair| pair.1), ratio: figures(|pair| pair.0 / pair.1) }
+    std::array::from_fn(|i| {
+        let figures = |of: fn(f64, f64) -> f64| Figures::of(said.iter().map(|(proved, plain)| of(proved[i], plain[i])).collect());
+        Spread { proved: figures(|proved, _| proved), plain: figures(|_, plain| plain), ratio: figures(|proved, plain| proved / plain) }
+    })
 }
 
 /// The same measure of both.
-fn in_turns(times: usize, measure: impl Fn(&dyn Calls) -> f64) -> Spread {
+fn in_turns<const N: usize>(times: usize, measure: impl Fn(&dyn Calls) -> [f64; N]) -> [Spread; N] {
     pairs(times, || measure(black_box(&Proved)), || measure(black_box(&Plain)))
 }
 
@@ -79,22 +81,22 @@ fn run(calls: &dyn Calls, record: &mut [u8], rounds: u32, out: &mut [u8]) -> u64
 /// Start and all rounds at k = 16.
 pub fn whole_runs(function: u32) -> Spread {
     let k = 16;
-    in_turns(15, |calls| {
+    let [spread] = in_turns(15, |calls| {
         let (mut hashes, mut out) = (0, [0; 16]);
         let seconds = time(|| {
             let mut record = start(calls, function, k);
             hashes = run(calls, &mut record, (2 << k) - 1, &mut out);
         });
         assert_eq!((hashes, out), (16 << 15, SEED), "{}: the card ran whole", calls.name());
-        seconds
-    })
+        [seconds]
+    });
+    spread
 }
-
-const HASHES: u32 = (1 << 20) - 1;
 
 /// One hash, by a chain of 2^20.
 pub fn hash(function: u32) -> Spread {
-    in_turns(7, |calls| hash_by_anchors(calls, function))
+    let [spread] = in_turns(7, |calls| [hash_by_anchors(calls, function, 20)]);
+    spread
 }
 
 /// One AES, where the plain one keeps to bytes.
@@ -104,21 +106,24 @@ pub fn hash_on_bytes() -> Spread {
     Proved.anchor(1, 3, &SEED, &mut proved).expect("an anchor can be had");
     assert_eq!(proved, walk(8), "the two work out the same");
     let on_bytes = || {
-        time(|| {
-            black_box(walk(HASHES));
-        }) / f64::from(HASHES)
+        let seconds = time(|| {
+            black_box(walk(1 << 20));
+        });
+        [seconds / f64::from(1 << 20)]
     };
-    pairs(7, || hash_by_anchors(black_box(&Proved), 1), on_bytes)
+    let [spread] = pairs(7, || [hash_by_anchors(black_box(&Proved), 1, 20)], on_bytes);
+    spread
 }
 
-fn hash_by_anchors(calls: &dyn Calls, function: u32) -> f64 {
+/// One hash: an anchor at k less one at 0, through the hashes that they differ by.
+fn hash_by_anchors(calls: &dyn Calls, function: u32, k: u32) -> f64 {
     let anchor = |k| {
         let mut out = [0; 16];
         calls.anchor(function, k, black_box(&SEED), black_box(&mut out)).expect("an anchor can be had");
         black_box(out);
     };
     let beside = time(|| (0..1000).for_each(|_| anchor(0))) / 1000.0;
-    (time(|| anchor(20)) - beside) / f64::from(HASHES)
+    (time(|| anchor(k)) - beside) / f64::from((1 << k) - 1)
 }
 
 /// One offer at G = 64: of a value that is 64 steps from the one held, or one that does not lead there.
@@ -129,7 +134,7 @@ pub fn offer(function: u32, fits: bool) -> Spread {
     let mut post = [0; POST_LEN];
     Proved.enrol(function, 20, if fits { &held } else { &[1; 16] }, &mut post).expect("a post can be enrolled");
     let wanted = if fits { Ok(64) } else { Err(9) };
-    in_turns(15, |calls| {
+    let [spread] = in_turns(15, |calls| {
         let seconds = time(|| {
             for _ in 0..OFFERS {
                 let mut record = post;
@@ -137,8 +142,9 @@ pub fn offer(function: u32, fits: bool) -> Spread {
                 assert_eq!(answer, wanted);
             }
         });
-        seconds / f64::from(OFFERS)
-    })
+        [seconds / f64::from(OFFERS)]
+    });
+    spread
 }
 
 /// The first 2^20 elements of the bench's chain. Cards of every k hold elements of it.
@@ -163,9 +169,15 @@ fn record_at(function: u32, k: u32, round: u32, chain: &[[u8; 16]]) -> Vec<u8> {
     record
 }
 
-/// One paying round: its hashes, and its time. Up to k = 16 the mean is over all of them, else over 16 stretches of 6250, spread over
-/// the card by the golden section.
-pub fn paying_rounds(function: u32, k: u32, chain: &[[u8; 16]]) -> (f64, Spread) {
+/// A paying round: its hashes, its time, and its time less that of its hashes.
+pub struct Paying {
+    pub hashes: f64,
+    pub each: Spread,
+    pub beside: Spread,
+}
+
+/// Up to k = 16 the mean is over all paying rounds, else over 16 stretches of 6250, spread over the card by the golden section.
+pub fn paying_rounds(function: u32, k: u32, chain: &[[u8; 16]]) -> Paying {
     let ticks = 1u32 << k;
     let (rounds, from): (u32, Vec<u32>) = if k <= 16 {
         (ticks, vec![ticks; 20_000_u32.div_ceil(ticks) as usize])
@@ -179,12 +191,15 @@ pub fn paying_rounds(function: u32, k: u32, chain: &[[u8; 16]]) -> (f64, Spread)
         let mut out = [0; 16];
         records.iter_mut().map(|record| run(calls, record, rounds, &mut out)).sum()
     };
-    let hashes = run_all(&Proved, &mut records.clone()) as f64;
-    let spread = in_turns(5, |calls| {
+    let hashes = run_all(&Proved, &mut records.clone()) as f64 / all;
+    // a hash is timed anew beside each run, since the processor's pace changes
+    let [each, beside] = in_turns(7, |calls| {
         let mut records = records.clone();
-        time(|| {
+        let hash = hash_by_anchors(calls, function, 14);
+        let seconds = time(|| {
             run_all(calls, &mut records);
-        }) / all
+        });
+        [seconds / all, seconds / all - hashes * hash]
     });
-    (hashes / all, spread)
+    Paying { hashes, each, beside }
 }

@@ -51,7 +51,7 @@ const fn times_x(b: u8) -> u8 {
 }
 
 /// The zero block under the value as key.
-#[inline]
+#[inline(always)]
 pub fn of_zero(value: Words) -> Words {
     let mut key = value;
     // the zero block and round key 0

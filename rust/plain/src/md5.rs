@@ -42,7 +42,7 @@ fn i(x: u32, y: u32, z: u32) -> u32 {
 }
 
 /// MD5 of a value.
-#[inline]
+#[inline(always)]
 pub fn of_value([m0, m1, m2, m3]: Words) -> Words {
     // the byte 0x80 behind the value; the length in bits; zeros
     const M4: u32 = 0x80;
