@@ -1,5 +1,5 @@
-//! Function 1: AES-128 of the zero block under a value as key. A column is a word of four bytes, row 0 lowest. A round looks up in one
-//! table what SubBytes and MixColumns make of a byte, and the round keys are worked out as they are needed.
+//! Function 1: AES-128 of the zero block under a value as key. A column is a word of four bytes, row 0 lowest. A round looks up in
+//! tables what SubBytes and MixColumns make of a byte, and the round keys are worked out as they are needed.
 
 use crate::function::Words;
 
