@@ -9,7 +9,7 @@ use lib.Arith.{bin-ind}
 use lib.Bits.{bitAnd, bitOr, bitXor, differ, xor-step, xor-shr, xor-mod, xor-comm, xor-lt, xor-block, and-block, and-mask, and-high, or-shifted}
 use lib.Pow.{low}
 use lib.ListN.{getD}
-use Rattle.aes.specs.Aes.{_⊕_, _•_, xtimes, mixColumn}
+use Rattle.aes.specs.Aes.{_⊕_, xtimes, mixColumn}
 use Rattle.aes.specs.Lanes.{word, Lanes, lanes, double, turn}
 use Rattle.aes.proofs.Laws.{twice, thrice}
 
@@ -32,11 +32,11 @@ xor-assoc : (a b c : ℕ) → a ⊕ b ⊕ c ≡ a ⊕ (b ⊕ c)
 xor-assoc =
     bin-ind (λ (a : ℕ). (b c : ℕ) → a ⊕ b ⊕ c ≡ a ⊕ (b ⊕ c)) (λ b c. refl)
     (λ a ih b c.
-        xor-step (a ⊕ b) c
-        ∙ ap₂ (λ (x y : ℕ). (x ⊕ c / 2) * 2 + differ y (c % 2)) (xor-shr a b 1) (xor-mod a b 1)
-        ∙ ap₂ (λ (x y : ℕ). x * 2 + y) (ih (b / 2) (c / 2)) (digit-assoc (a % 2) (b % 2) (c % 2) (omega arith) (omega arith) (omega arith))
-        ∙ sym (ap₂ (λ (x y : ℕ). (a / 2 ⊕ x) * 2 + differ (a % 2) y) (xor-shr b c 1) (xor-mod b c 1))
-        ∙ sym (xor-step a (b ⊕ c)))
+    xor-step (a ⊕ b) c
+    ∙ ap₂ (λ (x y : ℕ). (x ⊕ c / 2) * 2 + differ y (c % 2)) (xor-shr a b 1) (xor-mod a b 1)
+    ∙ ap₂ (λ (x y : ℕ). x * 2 + y) (ih (b / 2) (c / 2)) (digit-assoc (a % 2) (b % 2) (c % 2) (omega arith) (omega arith) (omega arith))
+    ∙ sym (ap₂ (λ (x y : ℕ). (a / 2 ⊕ x) * 2 + differ (a % 2) y) (xor-shr b c 1) (xor-mod b c 1))
+    ∙ sym (xor-step a (b ⊕ c)))
 
 -- the last of four to the front
 front : (a b c d : ℕ) → a ⊕ b ⊕ c ⊕ d ≡ d ⊕ a ⊕ b ⊕ c
@@ -51,24 +51,24 @@ module _ (op : ℕ → ℕ → ℕ)
       ap₂ op (l .is) (m .is)
       ∙ block 8 ((d * 256 + c) * 256 + b) ((d′ * 256 + c′) * 256 + b′) a a′ (l .a-byte) (m .a-byte)
       ∙ ap (λ (x : ℕ). x * 256 + op a a′)
-        (block 8 (d * 256 + c) (d′ * 256 + c′) b b′ (l .b-byte) (m .b-byte)
-        ∙ ap (λ (x : ℕ). x * 256 + op b b′) (block 8 d d′ c c′ (l .c-byte) (m .c-byte)))
+      (block 8 (d * 256 + c) (d′ * 256 + c′) b b′ (l .b-byte) (m .b-byte)
+      ∙ ap (λ (x : ℕ). x * 256 + op b b′) (block 8 d d′ c c′ (l .c-byte) (m .c-byte)))
 
 pub xor-lanes : {w a b c d w′ a′ b′ c′ d′ : ℕ} → Lanes w a b c d → Lanes w′ a′ b′ c′ d′ → Lanes (w ⊕ w′) (a ⊕ a′) (b ⊕ b′) (c ⊕ c′) (d ⊕ d′)
 xor-lanes l m =
-    record
-      { is = each bitXor xor-block l m
-      ; a-byte = xor-lt 8 _ _ (l .a-byte) (m .a-byte)
-      ; b-byte = xor-lt 8 _ _ (l .b-byte) (m .b-byte)
-      ; c-byte = xor-lt 8 _ _ (l .c-byte) (m .c-byte)
-      ; d-byte = xor-lt 8 _ _ (l .d-byte) (m .d-byte)
-      }
+    record {
+      is = each bitXor xor-block l m;
+      a-byte = xor-lt 8 _ _ (l .a-byte) (m .a-byte);
+      b-byte = xor-lt 8 _ _ (l .b-byte) (m .b-byte);
+      c-byte = xor-lt 8 _ _ (l .c-byte) (m .c-byte);
+      d-byte = xor-lt 8 _ _ (l .d-byte) (m .d-byte);
+    }
 
--- a mask with the same byte in each lane
+-- a number with the same byte in each lane
 mask : (m : ℕ) → m < 256 → Lanes (word m m m m) m m m m
 mask m h = record { is = refl; a-byte = h; b-byte = h; c-byte = h; d-byte = h }
 
--- the high bit of a byte, and the others
+-- the high bit of a byte, its other bits, and these in a product with 2
 high : (a : ℕ) → a < 256 → bitAnd a 128 ≡ a / 128 * 128
 high a h = let e : a / 128 % 2 * 128 ≡ a / 128 * 128 = omega arith in and-high a 1 7 ∙ e
 
@@ -78,24 +78,25 @@ others a = and-mask a 7
 moved : (a : ℕ) → a * 2 % 256 ≡ a % 128 * 2
 moved a = omega arith
 
+-- the two terms of the product with x, in each lane
 highs : {w a b c d : ℕ} → Lanes w a b c d → Lanes (0x1b * (bitAnd w 0x80808080 / 128)) (0x1b * (a / 128)) (0x1b * (b / 128)) (0x1b * (c / 128)) (0x1b * (d / 128))
 highs {w} {a} {b} {c} {d} l =
     let e : bitAnd w 0x80808080 ≡ word (a / 128 * 128) (b / 128 * 128) (c / 128 * 128) (d / 128 * 128) =
-      each bitAnd and-block l (mask 0x80 (omega arith)) ∙ rw (high a (l .a-byte), high b (l .b-byte), high c (l .c-byte), high d (l .d-byte)) in
+    each bitAnd and-block l (mask 0x80 (omega arith)) ∙ rw (high a (l .a-byte), high b (l .b-byte), high c (l .c-byte), high d (l .d-byte)) in
     record { is = omega arith; a-byte = omega arith; b-byte = omega arith; c-byte = omega arith; d-byte = omega arith }
 
 lows : {w a b c d : ℕ} → Lanes w a b c d → Lanes (bitAnd w 0x7f7f7f7f * 2 % 2 ^ 32) (a * 2 % 256) (b * 2 % 256) (c * 2 % 256) (d * 2 % 256)
 lows {w} {a} {b} {c} {d} l =
     let e : bitAnd w 0x7f7f7f7f ≡ word (a % 128) (b % 128) (c % 128) (d % 128) =
-      each bitAnd and-block l (mask 0x7f (omega arith)) ∙ rw (others a, others b, others c, others d) in
+    each bitAnd and-block l (mask 0x7f (omega arith)) ∙ rw (others a, others b, others c, others d) in
     let f : bitAnd w 0x7f7f7f7f * 2 % 2 ^ 32 ≡ word (a % 128 * 2) (b % 128 * 2) (c % 128 * 2) (d % 128 * 2) = mod-eq-of-lt (omega arith) ∙ omega arith in
-    record
-      { is = rw (moved a, moved b, moved c, moved d) f
-      ; a-byte = omega arith
-      ; b-byte = omega arith
-      ; c-byte = omega arith
-      ; d-byte = omega arith
-      }
+    record {
+      is = rw (moved a, moved b, moved c, moved d) f;
+      a-byte = omega arith;
+      b-byte = omega arith;
+      c-byte = omega arith;
+      d-byte = omega arith;
+    }
 
 pub double-lanes : {w a b c d : ℕ} → Lanes w a b c d → Lanes (double w) (xtimes a) (xtimes b) (xtimes c) (xtimes d)
 unfolding double xtimes
@@ -121,6 +122,7 @@ lanes-are {w} {a} {b} {c} {d} l =
 
 -- ---- a column mixed
 
+-- row r has the definition's terms, the r terms of the rows before it last; each comes to the front
 pub mixed : (s : List ℕ) {w : ℕ} → Lanes w (getD s 0 0) (getD s 1 0) (getD s 2 0) (getD s 3 0)
     → lanes (double w ⊕ (turn w ⊕ turn (double w)) ⊕ turn (turn w) ⊕ turn (turn (turn w))) ≡ mixColumn s
 unfolding mixColumn
@@ -134,11 +136,11 @@ mixed s l =
     let u = turn-lanes t in
     lanes-are (xor-lanes (xor-lanes (xor-lanes d (xor-lanes t (turn-lanes d))) u) (turn-lanes u))
     ∙ simp (twice, thrice)
-      (rw
-        ( front (xtimes s₁) (s₂ ⊕ xtimes s₂) s₃ s₀
-        , front (xtimes s₂) (s₃ ⊕ xtimes s₃) s₀ s₁
-        , front s₁ (xtimes s₂) (s₃ ⊕ xtimes s₃) s₀
-        , front (xtimes s₃) (s₀ ⊕ xtimes s₀) s₁ s₂
-        , front s₂ (xtimes s₃) (s₀ ⊕ xtimes s₀) s₁
-        , front s₁ s₂ (xtimes s₃) (s₀ ⊕ xtimes s₀)
-        ))
+    (rw (
+      front (xtimes s₁) (s₂ ⊕ xtimes s₂) s₃ s₀,
+      front (xtimes s₂) (s₃ ⊕ xtimes s₃) s₀ s₁,
+      front s₁ (xtimes s₂) (s₃ ⊕ xtimes s₃) s₀,
+      front (xtimes s₃) (s₀ ⊕ xtimes s₀) s₁ s₂,
+      front s₂ (xtimes s₃) (s₀ ⊕ xtimes s₀) s₁,
+      front s₁ s₂ (xtimes s₃) (s₀ ⊕ xtimes s₀),
+    ))

@@ -84,7 +84,12 @@ fn pack(s: [u8; 4]) -> u32
 fn unpack(w: u32) -> [u8; 4]
     ensures { λ r. ⌜ r ≡ lanes w ⌝ }
 {
-    [(w % 256) as u8, (w / 0x100 % 256) as u8, (w / 0x1_0000 % 256) as u8, (w / 0x100_0000) as u8]
+    [
+        (w % 256) as u8,
+        (w / 0x100 % 256) as u8,
+        (w / 0x1_0000 % 256) as u8,
+        (w / 0x100_0000) as u8,
+    ]
 }
 
 // 4.2: the product of each lane with x, as `xtimes` makes it of a byte. What moves out of a lane is kept from the next by the masks.

@@ -9,15 +9,15 @@ returns c =
     let w2 = c .before .before in
     let w1 = w2 .before .before in
     let w = w1 .before .before in
-    rw
-      ( c .unpack .ensures
-      , c .before .turned4 .ensures
-      , w2 .turned3 .ensures
-      , w2 .before .turned2 .ensures
-      , w1 .turned .ensures
-      , w1 .before .doubled .ensures
-      )
-      (mixed (w .before .args .s) (w .pack .ensures))
+    rw (
+      c .unpack .ensures,
+      c .before .turned4 .ensures,
+      w2 .turned3 .ensures,
+      w2 .before .turned2 .ensures,
+      w1 .turned .ensures,
+      w1 .before .doubled .ensures,
+    )
+    (mixed (w .before .args .s) (w .pack .ensures))
 
 pub mix-column-spec : {M : Type 1} → statement M
 mix-column-spec =
