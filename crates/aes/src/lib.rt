@@ -1,8 +1,11 @@
 // AES-128 encryption of one block. The functions have the names of FIPS 197 and do its steps; a number such as 5.1.1 is a section there.
 // A state is the array of its four columns, and a round key is sixteen bytes. `sub` is the S-box, lent.
 ghost use mathlib.Core.Path.{_≡_};
+ghost use Prim.Native.Nat.{_<_};
+ghost use lib.ListN.{getD};
 ghost use Rattle.tables.specs.Tabled.{Tabled};
 ghost use Rattle.aes.specs.Aes.{columns, bytes, xtimes, sBox, subBytes, shiftRows, mixColumn, mixColumns, addRoundKey, subWord, xorWords, rounds, cipher};
+ghost use Rattle.aes.specs.Lanes.{Lanes, lanes, double, turn};
 ghost use Rattle.aes.specs.Schedule.{nextRoundKey, keyOf, RoundKeys};
 
 // 5.1.1, table 4: a row of sixteen for each high half of a byte.
@@ -59,11 +62,55 @@ fn sub_word(sub: &[u8; 256], a: [u8; 4]) -> [u8; 4]
     [b0, b1, b2, b3]
 }
 
+fn wide(b: u8) -> u32
+    ensures { λ r. ⌜ (r ≡ b) × (r < 256) ⌝ }
+{
+    b as u32
+}
+
+// A word as one number, its first byte lowest: a byte's place there is a lane. What is done to each byte of a word alike is done to the
+// number at once.
+fn pack(s: [u8; 4]) -> u32
+    ensures { λ r. ⌜ Lanes r (getD s 0 0) (getD s 1 0) (getD s 2 0) (getD s 3 0) ⌝ }
+{
+    let b0 = wide(s[0]);
+    let b1 = wide(s[1]);
+    let b2 = wide(s[2]);
+    let b3 = wide(s[3]);
+    b0 + 0x100 * b1 + 0x1_0000 * b2 + 0x100_0000 * b3
+}
+
+// The word back, from its number.
+fn unpack(w: u32) -> [u8; 4]
+    ensures { λ r. ⌜ r ≡ lanes w ⌝ }
+{
+    [
+        (w % 256) as u8,
+        (w / 0x100 % 256) as u8,
+        (w / 0x1_0000 % 256) as u8,
+        (w / 0x100_0000) as u8,
+    ]
+}
+
+// 4.2: the product of each lane with x, as `xtimes` makes it of a byte. What moves out of a lane is kept from the next by the masks.
+fn doubled(w: u32) -> u32
+    ensures { λ r. ⌜ r ≡ double w ⌝ }
+{
+    (0x1b * ((w & 0x8080_8080) >> 7)) ^ ((w & 0x7f7f_7f7f) << 1)
+}
+
+// Each lane in the place of the one below it, and the lowest at the top.
+fn turned(w: u32) -> u32
+    ensures { λ r. ⌜ r ≡ turn w ⌝ }
+{
+    (w << 24) | (w >> 8)
+}
+
 // 4.1: the sum of two words, byte by byte.
 fn xor_words(a: [u8; 4], b: [u8; 4]) -> [u8; 4]
     ensures { λ r. ⌜ r ≡ xorWords a b ⌝ }
 {
-    [a[0] ^ b[0], a[1] ^ b[1], a[2] ^ b[2], a[3] ^ b[3]]
+    unpack(pack(a) ^ pack(b))
 }
 
 // 3.4: sixteen bytes as a state, or as four words.
@@ -134,24 +181,18 @@ fn shift_rows(s: [[u8; 4]; 4]) -> [[u8; 4]; 4]
     ]
 }
 
-// 5.1.3: one column mixed. Twice a byte is its product with x, and three times a byte is that and the byte.
+// 5.1.3: one column mixed, all rows at once: each row takes twice its own byte, three times the next, and the two others. Twice a byte is
+// its product with x, and three times a byte is that and the byte.
 fn mix_column(s: [u8; 4]) -> [u8; 4]
     ensures { λ r. ⌜ r ≡ mixColumn s ⌝ }
 {
-    let s0 = s[0];
-    let s1 = s[1];
-    let s2 = s[2];
-    let s3 = s[3];
-    let d0 = xtimes(s0);
-    let d1 = xtimes(s1);
-    let d2 = xtimes(s2);
-    let d3 = xtimes(s3);
-    [
-        d0 ^ (s1 ^ d1) ^ s2 ^ s3,
-        s0 ^ d1 ^ (s2 ^ d2) ^ s3,
-        s0 ^ s1 ^ d2 ^ (s3 ^ d3),
-        (s0 ^ d0) ^ s1 ^ s2 ^ d3,
-    ]
+    let w = pack(s);
+    let d = doubled(w);
+    let w1 = turned(w);
+    let d1 = turned(d);
+    let w2 = turned(w1);
+    let w3 = turned(w2);
+    unpack(d ^ (w1 ^ d1) ^ w2 ^ w3)
 }
 
 // 5.1.3: each column mixed.
