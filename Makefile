@@ -1,15 +1,24 @@
 # The two commands: `make demo` runs the main job, `make test` passes.
-.PHONY: help demo test have-rt
+.PHONY: help demo tool build test have-rt have-cargo
+
+TOOL = rust/target/release/perchmellow
 
 help:
-	@echo "make demo   run the published examples on the two one-way functions"
+	@echo "make demo   a card of 16 ticks pays a post on the terminal, a line a round"
+	@echo "make tool   build perchmellow, the bench tool, and say where it is"
 	@echo "make test   prove everything from nothing, try the must-fail edits, run the programs (some minutes)"
 
-demo: have-rt
+demo: build
+	@$(TOOL) demo
+
+tool: build
+	@echo "the bench tool is $(TOOL); '$(TOOL) --help' says what it does"
+
+# The wrapper's build script has rt prove the library before anything is linked.
+build: have-rt have-cargo
 	@mkdir -p target
-	@echo "proving what the demo needs (a minute or two the first time) ..."
-	@rt check vectors >target/demo.log 2>&1 || { cat target/demo.log; exit 1; }
-	@target/bin/vectors
+	@echo "proving the library and building the bench tool over it (some minutes the first time) ..."
+	@cd rust && cargo build --quiet --release --offline -p tool >../target/build.log 2>&1 || { cat ../target/build.log; exit 1; }
 
 test: have-rt
 	@.ci/run
@@ -17,4 +26,9 @@ test: have-rt
 have-rt:
 	@command -v rt >/dev/null 2>&1 || { \
 	  echo "perchmellow: rt, the prover's command, is not on the PATH; put the bin folder of the Rattle kit there and run this again." >&2; \
+	  exit 2; }
+
+have-cargo:
+	@command -v cargo >/dev/null 2>&1 || { \
+	  echo "perchmellow: cargo, Rust's command, is not on the PATH; install Rust 1.89 or later and run this again." >&2; \
 	  exit 2; }
