@@ -1,8 +1,11 @@
 //! The demo: a card of 16 ticks pays a post, a line a round.
 
+use crate::args::Args;
 use crate::run::{run, Step};
+use crate::say::{out, Done};
 use perchmellow::{anchor, enrol, offer, settle, Refusal, MD5, OPTIMAL, POST_LEN, VALUE_LEN};
 use std::fmt::Write;
+use std::io::{stdout, IsTerminal};
 
 const K: u32 = 4;
 const TICKS: u32 = 1 << K;
@@ -10,8 +13,14 @@ const GAP: u32 = 2;
 /// The tick that gets lost between card and post.
 const LOST: u32 = 6;
 
+pub fn demo(_: &Args) -> Done {
+    let colour = stdout().is_terminal() && std::env::var_os("NO_COLOR").is_none();
+    out(&scene(colour).expect("the demo's own numbers are in range"))?;
+    Ok(0)
+}
+
 /// The whole scene, in colour or without.
-pub fn scene(colour: bool) -> Result<String, Refusal> {
+fn scene(colour: bool) -> Result<String, Refusal> {
     let seed = *b"a seed for trial";
     let (mut last, mut post) = ([0; VALUE_LEN], [0; POST_LEN]);
     anchor(MD5, K, &seed, &mut last)?;
