@@ -140,6 +140,15 @@ impl Args {
         named(value, &SCHEDULES).ok_or_else(|| self.wrong("--schedule", "is not known by that name"))
     }
 
+    /// A schedule by its name and a k of at most `most`, as operands from number `at`.
+    pub fn run_asked(&self, at: usize, most: u32) -> Result<(&'static str, u32, u32), Trouble> {
+        let (name, digits) = (self.operand(at)?, self.operand(at + 1)?);
+        let named = SCHEDULES.iter().find(|(known, _)| name == *known);
+        let &(name, schedule) = named.ok_or_else(|| self.usage("SCHEDULE is rushing, speed-1, speed-2 or optimal."))?;
+        let k = decimal(digits).filter(|k| *k <= most && digits == &*k.to_string());
+        Ok((name, schedule, k.ok_or_else(|| self.usage(&format!("K is from 0 to {most}, in decimal without leading zeros.")))?))
+    }
+
     pub fn json(&self) -> bool {
         self.flag("--json")
     }

@@ -1,6 +1,6 @@
 //! The card's side: start, round, positions, anchor and list.
 
-use crate::args::{decimal, name_of, Args, FUNCTIONS, SCHEDULES};
+use crate::args::{name_of, Args, FUNCTIONS, SCHEDULES};
 use crate::files::{shown, value, Locked};
 use crate::record::{Kind, Read};
 use crate::refused::Asked;
@@ -56,9 +56,7 @@ impl Rounds {
         match (did, self.0.last_mut()) {
             (Round::Quiet { hashes }, Some(last)) if last.tick.is_none() => (last.to, last.hashes) = (number, last.hashes + hashes),
             (Round::Quiet { hashes }, _) => self.0.push(Told { from: number, to: number, hashes, tick: None }),
-            (Round::Tick { position, hashes }, _) => {
-                self.0.push(Told { from: number, to: number, hashes, tick: Some((position, value)) })
-            }
+            (Round::Tick { position, hashes }, _) => self.0.push(Told { from: number, to: number, hashes, tick: Some((position, value)) }),
         }
     }
 
@@ -96,17 +94,17 @@ pub fn round(args: &Args) -> Done {
         (Some(0), _) => return Err(args.wrong("--times", "wants 1 or more")),
         (Some(_), true) => return Err(args.wrong("--to-tick", "cannot stand beside --times")),
         (Some(times), false) => times,
-        (None, to_tick) => if to_tick { u32::MAX } else { 1 },
+        (None, true) => u32::MAX,
+        (None, false) => 1,
     };
     let file = Locked::take(path)?;
     let mut record = file.read()?;
-    let mut number = Read::of(Kind::Card, &record).round.unwrap_or(0);
+    let first = Read::of(Kind::Card, &record).round.unwrap_or(0);
     let mut rounds = Rounds::default();
-    for _ in 0..times {
+    for (number, _) in (first..=u32::MAX).zip(0..times) {
         let mut tick = [0; VALUE_LEN];
         let did = perchmellow::round(&mut record, &mut tick).map_err(|refusal| refused(&rounds, &record, refusal))?;
         rounds.add(number, did, tick);
-        number += 1;
         if args.flag("--to-tick") && matches!(did, Round::Tick { .. }) {
             break;
         }
@@ -186,7 +184,7 @@ pub fn anchor(args: &Args) -> Done {
         .map_err(|refusal| Asked::new(function, k).value("seed", &seed).refused("anchor", refusal))?;
     let anchor = hex(&anchor);
     if let Some(to) = args.path("--out") {
-        Locked::take(to)?.write(format!("{anchor}\n").as_bytes())?;
+        Locked::take(to)?.write_public(format!("{anchor}\n").as_bytes())?;
     }
     args.answer(Answer { words: format!("{anchor}\n"), fields: vec![("anchor", Json::text(anchor))] })?;
     Ok(0)
@@ -194,12 +192,7 @@ pub fn anchor(args: &Args) -> Done {
 
 /// The listing of document 01, from a real card.
 pub fn list(args: &Args) -> Done {
-    const MOST: u32 = 10;
-    let (schedule, digits) = (args.operand(0)?, args.operand(1)?);
-    let schedule = SCHEDULES.iter().find(|(name, _)| schedule == *name);
-    let &(name, schedule) = schedule.ok_or_else(|| args.usage("SCHEDULE is rushing, speed-1, speed-2 or optimal."))?;
-    let k = decimal(digits).filter(|k| *k <= MOST && digits == &*k.to_string());
-    let k = k.ok_or_else(|| args.usage(&format!("K is from 0 to {MOST}, in decimal without leading zeros.")))?;
+    let (name, schedule, k) = args.run_asked(0, 10)?;
     let steps = run::run(perchmellow::MD5, k, schedule, &[0; VALUE_LEN]).map_err(|refusal| Asked::of_k(k).refused("list", refusal))?;
     let total: u32 = steps.iter().map(|step| step.hashes).sum();
     let mut words = format!("pebbles {name} {k}\n");
@@ -215,12 +208,8 @@ pub fn list(args: &Args) -> Done {
         ]));
     }
     let _ = writeln!(words, "total {total}");
-    let fields = vec![
-        ("schedule", Json::text(name)),
-        ("k", Json::number(k)),
-        ("rounds", Json::List(rounds)),
-        ("total", Json::number(total)),
-    ];
+    let fields =
+        vec![("schedule", Json::text(name)), ("k", Json::number(k)), ("rounds", Json::List(rounds)), ("total", Json::number(total))];
     args.answer(Answer { words, fields })?;
     Ok(0)
 }

@@ -63,15 +63,25 @@ impl Locked {
         read_record(&self.real, &self.name)
     }
 
-    /// Puts these bytes in the place of the file: the old ones stay, or the new ones are there, and nothing between.
+    /// Puts these bytes in the place of the file: the old ones stay, or the new ones are there, and nothing between. A new file is
+    /// for its owner alone: records hold values that pay, and so does a tick until it is offered.
     pub fn write(&self, bytes: &[u8]) -> Result<(), Trouble> {
+        self.put(bytes, 0o600)
+    }
+
+    /// The same, for what anyone may see.
+    pub fn write_public(&self, bytes: &[u8]) -> Result<(), Trouble> {
+        self.put(bytes, 0o666)
+    }
+
+    fn put(&self, bytes: &[u8], mode: u32) -> Result<(), Trouble> {
         let old = match fs::metadata(&self.real) {
             Ok(old) if !old.is_file() => return Err(Trouble::other(format!("{} is not a plain file.", self.name))),
             Ok(old) => Some(old),
             Err(_) => None,
         };
         let new = beside(&self.real, ".new");
-        let written = write_new(&new, bytes, old.as_ref()).and_then(|()| fs::rename(&new, &self.real));
+        let written = write_new(&new, bytes, mode, old.as_ref()).and_then(|()| fs::rename(&new, &self.real));
         if written.is_err() {
             let _ = fs::remove_file(&new);
         }
@@ -107,13 +117,13 @@ fn is_still(held: &File, path: &Path) -> bool {
     matches!((held.metadata(), fs::metadata(path)), (Ok(a), Ok(b)) if a.ino() == b.ino() && a.dev() == b.dev())
 }
 
-fn write_new(new: &Path, bytes: &[u8], old: Option<&Metadata>) -> io::Result<()> {
+fn write_new(new: &Path, bytes: &[u8], mode: u32, old: Option<&Metadata>) -> io::Result<()> {
     // One that a power cut left there is of no use to anyone.
     match fs::remove_file(new) {
         Err(error) if error.kind() != io::ErrorKind::NotFound => return Err(error),
         _ => {}
     }
-    let mut file = OpenOptions::new().write(true).create_new(true).mode(0o600).open(new)?;
+    let mut file = OpenOptions::new().write(true).create_new(true).mode(mode).open(new)?;
     file.write_all(bytes)?;
     if let Some(old) = old {
         let now = file.metadata()?;

@@ -13,6 +13,7 @@ mod ride;
 mod run;
 mod say;
 mod show;
+mod svg;
 
 use std::ffi::OsString;
 use std::process::ExitCode;

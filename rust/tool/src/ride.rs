@@ -30,9 +30,9 @@ struct Summary {
 
 pub fn ride(args: &Args) -> Done {
     let gap = args.number("--gap")?.unwrap_or(1);
-    let missed = args.value("--miss").map_or(Ok(Vec::new()), |list| {
-        ranges(list).ok_or_else(|| args.wrong("--miss", "wants ticks counted from 1, as in 3,7-9"))
-    })?;
+    let missed = args
+        .value("--miss")
+        .map_or(Ok(Vec::new()), |list| ranges(list).ok_or_else(|| args.wrong("--miss", "wants ticks counted from 1, as in 3,7-9")))?;
     let limit = args.number("--ticks")?.unwrap_or(u32::MAX);
     let files = match args.operands() {
         0 if !args.flag("--save") => None,
@@ -133,9 +133,8 @@ impl Summary {
             Some(true) => "both files      saved\n",
             Some(false) => "both files     as they were; --save would keep the ride\n",
         });
-        let pair = |(number, times): (usize, &u32)| {
-            Json::Object(vec![("refusal", Json::number(number as u64)), ("times", Json::number(*times))])
-        };
+        let pair =
+            |(number, times): (usize, &u32)| Json::Object(vec![("refusal", Json::number(number as u64)), ("times", Json::number(*times))]);
         let fields = vec![
             ("rounds", Json::number(self.rounds)),
             ("hashes", Json::number(self.hashes)),
@@ -182,7 +181,7 @@ impl Progress {
     }
 
     fn at(&mut self, done: u32) {
-        let Some(begun) = self.begun.filter(|_| done % 64 == 0) else { return };
+        let Some(begun) = self.begun.filter(|_| done.is_multiple_of(64)) else { return };
         if self.drawn.map_or(begun.elapsed() > Self::WAIT, |last| last.elapsed() > Self::AGAIN) {
             self.drawn = Some(Instant::now());
             let full = (u64::from(done) * u64::from(Self::WIDTH) / u64::from(self.all.max(1))) as usize;

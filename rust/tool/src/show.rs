@@ -73,7 +73,9 @@ fn chain(kind: Kind, record: &[u8], told: &Read) -> Option<(bool, String)> {
         let paid = paid(record).0;
         return Some(match good {
             true => (true, format!("Settle says yes: {} from the value held to the anchor.\n", count(paid, "step leads", "steps lead"))),
-            false => (false, format!("Settle says no: {} not lead from the value held to the anchor.\n", count(paid, "step does", "steps do"))),
+            false => {
+                (false, format!("Settle says no: {} not lead from the value held to the anchor.\n", count(paid, "step does", "steps do")))
+            }
         });
     }
     let slot = |at: usize| &record[CARD_HEAD_LEN + at * VALUE_LEN..][..VALUE_LEN];
@@ -111,7 +113,10 @@ fn fields(kind: Kind, record: &[u8], told: &Read, refusal: Option<Refusal>, chai
         Kind::Card => fields.extend([
             ("schedule", Json::or_null(told.schedule)),
             ("round", Json::or_null(told.round)),
-            ("rounds_left", Json::or_null(told.round.zip(ends).filter(|(round, end)| (1..=*end).contains(round)).map(|(round, end)| end - round))),
+            (
+                "rounds_left",
+                Json::or_null(told.round.zip(ends).filter(|(round, end)| (1..=*end).contains(round)).map(|(round, end)| end - round)),
+            ),
             ("slots", Json::List(told.slots.iter().map(|position| Json::or_null(*position)).collect())),
         ]),
         Kind::Post => fields.extend([
