@@ -158,7 +158,7 @@ pub const COMMANDS: &[Command] = &[
             may("--seed-file FILE", "without files: the seed in 32 hex digits; - reads standard input"),
             may("--function F", "without files: md5 or aes, or the number 0 or 1"),
             may("--k K", "without files: the card has 2^K ticks; K from 0 to 20"),
-            SCHEDULE,
+            may("--schedule S", "without files: rushing, speed-1, speed-2 or optimal, or 0 to 3; optimal if not given"),
             GAP,
             may("--miss LIST", "ticks that get lost on the way, counted from 1 as they are put out: 3,7-9"),
             may("--ticks N", "stop after N ticks"),

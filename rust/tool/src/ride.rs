@@ -1,7 +1,7 @@
 //! `ride`: a card pays a post, from files or from a seed, with ticks that get lost on the way.
 
 use crate::args::Args;
-use crate::files::{value, Locked};
+use crate::files::{read, value, Locked};
 use crate::posts::{paid, settle_record};
 use crate::record::{Kind, Read};
 use crate::refused::Asked;
@@ -34,15 +34,7 @@ pub fn ride(args: &Args) -> Done {
         .value("--miss")
         .map_or(Ok(Vec::new()), |list| ranges(list).ok_or_else(|| args.wrong("--miss", "wants ticks counted from 1, as in 3,7-9")))?;
     let limit = args.number("--ticks")?.unwrap_or(u32::MAX);
-    let files = match args.operands() {
-        0 if !args.flag("--save") => None,
-        0 => return Err(args.wrong("--save", "wants CARD and POST to save to")),
-        _ => Some((Locked::take(Path::new(args.operand(0)?))?, Locked::take(Path::new(args.operand(1)?))?)),
-    };
-    let (mut card, mut post) = match &files {
-        Some((card, post)) => (card.read()?, post.read()?),
-        None => from_seed(args)?,
-    };
+    let (mut card, mut post, files) = records(args)?;
     if let Some(refusal) = Kind::Card.judged(&card) {
         return Err(Asked::default().refused_on(Kind::Card, &card, refusal));
     }
@@ -57,14 +49,37 @@ pub fn ride(args: &Args) -> Done {
     }
 
     let summary = rode(&mut card, &mut post, gap, &missed, limit)?;
-    if let (Some((card_file, post_file)), true) = (&files, args.flag("--save")) {
+    if let Some((card_file, post_file)) = &files {
         // The post first: cut off between the two, the card puts out again what the post has, and nothing is lost.
         post_file.write(&post)?;
         card_file.write(&card)?;
     }
     let settled = settle_record(&post)?;
-    args.answer(summary.answer(paid(&post), settled, files.is_some().then_some(args.flag("--save"))))?;
+    args.answer(summary.answer(paid(&post), settled, (args.operands() > 0).then_some(files.is_some())))?;
     Ok(0)
+}
+
+/// A card's and a post's record, and their files where the ride is to be saved.
+type Records = (Vec<u8>, Vec<u8>, Option<(Locked, Locked)>);
+
+/// A trial only looks at the files, and locks none.
+fn records(args: &Args) -> Result<Records, Trouble> {
+    if args.operands() == 0 {
+        if args.flag("--save") {
+            return Err(args.wrong("--save", "wants CARD and POST to save to"));
+        }
+        let (card, post) = from_seed(args)?;
+        return Ok((card, post, None));
+    }
+    let (card, post) = (Path::new(args.operand(0)?), Path::new(args.operand(1)?));
+    if let Some(option) = ["--seed-file", "--function", "--k", "--schedule"].iter().find(|option| args.flag(option)) {
+        return Err(args.wrong(option, "cannot stand beside CARD and POST, which have it"));
+    }
+    if !args.flag("--save") {
+        return Ok((read(card)?, read(post)?, None));
+    }
+    let (card, post) = (Locked::take(card)?, Locked::take(post)?);
+    Ok((card.read()?, post.read()?, Some((card, post))))
 }
 
 fn from_seed(args: &Args) -> Result<(Vec<u8>, Vec<u8>), Trouble> {
@@ -80,8 +95,8 @@ fn from_seed(args: &Args) -> Result<(Vec<u8>, Vec<u8>), Trouble> {
 }
 
 fn rode(card: &mut [u8], post: &mut [u8], gap: u32, missed: &[RangeInclusive<u32>], limit: u32) -> Result<Summary, Trouble> {
-    let read = Read::of(Kind::Card, card);
-    let left = read.k.zip(read.round).map_or(0, |(k, round)| (2u32 << k) - round);
+    let told = Read::of(Kind::Card, card);
+    let left = told.k.zip(told.round).map_or(0, |(k, round)| (2u32 << k) - round);
     let mut progress = Progress::new(left);
     let (mut summary, mut tick) = (Summary::default(), [0; VALUE_LEN]);
     while summary.rounds < left && summary.ticks < limit {
@@ -130,7 +145,7 @@ impl Summary {
         );
         words.push_str(match saved {
             None => "",
-            Some(true) => "both files      saved\n",
+            Some(true) => "both files     saved\n",
             Some(false) => "both files     as they were; --save would keep the ride\n",
         });
         let pair =

@@ -5,6 +5,7 @@ use crate::json::Value;
 use std::collections::BTreeSet;
 use std::fs::{self, File};
 use std::os::unix::fs::{symlink, MetadataExt, PermissionsExt};
+use std::os::unix::process::CommandExt;
 use std::process::{Command, Stdio};
 use std::thread;
 use std::time::Duration;
@@ -88,7 +89,7 @@ fn one_file_for_two_parts_is_told() {
     let before = seal(&folder, "card.pm");
     folder.write("late.pm", folder.read("card.pm"));
     folder.good(&["round", "late.pm", "--times", "3"]);
-    for call in [&["ride", "card.pm", "./card.pm"][..], &["round", "late.pm", "--out", "late.pm"]] {
+    for call in [&["ride", "card.pm", "./card.pm", "--save"][..], &["round", "late.pm", "--out", "late.pm"]] {
         let (status, words) = folder.trouble(call);
         assert_eq!(status, 4);
         assert!(words.contains("named twice"), "{words}");
@@ -223,6 +224,32 @@ fn modes_and_links_are_kept() {
     assert_eq!((mode("card.pm"), mode("tick.hex")), (0o640, 0o600));
     assert!(fs::symlink_metadata(folder.path("depot/link.pm")).unwrap().is_symlink());
     assert_eq!(folder.answer(&["show", "card.pm"])["round"].number(), 9);
+}
+
+/// As another user than the one that the files belong to; a test run by root becomes nobody for it.
+#[test]
+fn files_of_others_are_told() {
+    let folder = Folder::with_card("md5", 2, "optimal");
+    fs::copy(TOOL, folder.path("tool")).unwrap();
+    let owner = fs::metadata(folder.path("card.pm")).unwrap().uid();
+    let run = |args: &[&str]| {
+        let mut command = Command::new(folder.path("tool"));
+        if owner == 0 {
+            command.uid(65534).gid(65534);
+        }
+        command.args(args).current_dir(&folder.0).output().unwrap()
+    };
+    if owner != 0 {
+        fs::set_permissions(folder.path("card.pm"), fs::Permissions::from_mode(0)).unwrap();
+        fs::set_permissions(&folder.0, fs::Permissions::from_mode(0o500)).unwrap();
+    }
+    let ran = [run(&["show", "card.pm"]), run(&["round", "card.pm"])];
+    fs::set_permissions(&folder.0, fs::Permissions::from_mode(0o700)).unwrap();
+    for ran in ran {
+        let said = String::from_utf8(ran.stderr).unwrap();
+        assert_eq!(ran.status.code(), Some(6), "{said}");
+        assert!(said.contains("may not be read or written by this user"), "{said}");
+    }
 }
 
 #[test]

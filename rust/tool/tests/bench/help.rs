@@ -57,6 +57,7 @@ fn bad_usage_is_2_with_the_line_of_help_that_it_fails() {
         (&["ride", "card.pm", "post.pm", "--miss", "0"], "  --miss LIST "),
         (&["ride", "card.pm", "post.pm", "--miss", "9-7"], "  --miss LIST "),
         (&["ride", "--save"], "  --save "),
+        (&["ride", "card.pm", "post.pm", "--k", "4"], "  --k K "),
         (&["picture", "run", "optimal", "7"], "usage: perchmellow picture KIND SCHEDULE K"),
         (&["picture", "walk", "optimal", "4"], "usage: perchmellow picture KIND SCHEDULE K"),
         (&["picture", "run", "optimal"], "picture wants K.\nusage: perchmellow picture "),
@@ -78,4 +79,12 @@ fn options_may_be_glued_and_names_may_begin_with_a_dash() {
     folder.good(&["round", "card.pm", "--times=2"]);
     std::fs::rename(folder.path("card.pm"), folder.path("-card.pm")).unwrap();
     folder.good(&["round", "--times", "1", "--", "-card.pm"]);
+}
+
+#[test]
+fn the_page_about_the_tool_is_true() {
+    let script = concat!(env!("CARGO_MANIFEST_DIR"), "/../../tests/bench-tool.sh");
+    let tool = std::path::Path::new(crate::common::TOOL).parent().unwrap();
+    let ran = Folder::new().shell(&format!("sh '{script}' '{}'", tool.display()));
+    assert_eq!(ran.status, 0, "{}{}", ran.out, ran.err);
 }
