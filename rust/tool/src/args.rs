@@ -54,6 +54,8 @@ impl Args {
             } else if options && text.starts_with('-') && text != "-" {
                 let (name, glued) = text.split_once('=').map_or((text, None), |(name, value)| (name, Some(value)));
                 let Some(form) = command.options.iter().map(|option| option.form).find(|form| form.split(' ').next() == Some(name)) else {
+                    // Nor is a long word repeated here.
+                    let name = if name.len() < 20 { name } else { "of that name" };
                     return Err(args.usage(&format!("{} has no option {name}.", command.name)));
                 };
                 let name = form.split(' ').next().unwrap_or(form);

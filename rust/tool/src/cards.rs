@@ -18,7 +18,7 @@ pub fn start(args: &Args) -> Done {
     perchmellow::start(function, k, schedule, &seed, &mut record)
         .map_err(|refusal| Asked::new(function, k).schedule(schedule).value("seed", &seed).refused("start", refusal))?;
     record.truncate(card_len(k, schedule));
-    Locked::take(path)?.write_first(&record)?;
+    Locked::place(path)?.write_first(&record)?;
     args.answer(Answer {
         words: format!(
             "{}: a card of {}, {}, {}, in {}; its next round is 1\n",
@@ -109,7 +109,10 @@ pub fn round(args: &Args) -> Done {
             break;
         }
     }
-    let again = |trouble: Trouble| trouble.and("The card stands where it stood; what was put out above will be put out again.");
+    let again = |trouble: Trouble| match file.read() {
+        Ok(now) if now == record => trouble,
+        _ => trouble.and("The card stands where it stood; what was put out will be put out again."),
+    };
     match args.path("--out") {
         None => {
             args.answer(rounds.answer(shown(path)))?;
@@ -122,7 +125,7 @@ pub fn round(args: &Args) -> Done {
         Some(to) => {
             let ticks = rounds.ticks();
             if !ticks.is_empty() {
-                Locked::take(to)?.write(ticks.as_bytes())?;
+                Locked::place(to)?.write(ticks.as_bytes())?;
             }
             file.write(&record).map_err(again)?;
             args.answer(rounds.answer(shown(path)))?;
@@ -184,7 +187,7 @@ pub fn anchor(args: &Args) -> Done {
         .map_err(|refusal| Asked::new(function, k).value("seed", &seed).refused("anchor", refusal))?;
     let anchor = hex(&anchor);
     if let Some(to) = args.path("--out") {
-        Locked::take(to)?.write_public(format!("{anchor}\n").as_bytes())?;
+        Locked::place(to)?.write_public(format!("{anchor}\n").as_bytes())?;
     }
     args.answer(Answer { words: format!("{anchor}\n"), fields: vec![("anchor", Json::text(anchor))] })?;
     Ok(0)

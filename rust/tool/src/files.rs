@@ -12,11 +12,12 @@ const RECORD_FILE_MOST: u64 = 1 << 20;
 /// More than any file with one value in it.
 const VALUE_FILE_MOST: u64 = 4096;
 
-/// A file's name as it is said to the user. A name of 32 hex digits may be a seed in the wrong place, and is kept back.
+/// A file's name as it is said to the user. One with 32 hex digits in it may be a seed in the wrong place, and is kept back.
 pub fn shown(path: &Path) -> String {
     let name = path.to_string_lossy();
-    if name.len() == 32 && name.bytes().all(|b| b.is_ascii_hexdigit()) {
-        return "the file whose name is 32 hex digits".into();
+    let seed = |part: &str| part.len() == 32 && part.bytes().all(|b| b.is_ascii_hexdigit());
+    if name.split(['/', '.']).any(seed) {
+        return "the file with 32 hex digits in its name".into();
     }
     name.into_owned()
 }
@@ -33,22 +34,30 @@ pub struct Locked {
 }
 
 impl Locked {
-    /// Locks a file that is there, or the place of one that is not.
+    /// Locks a file that is there.
     pub fn take(path: &Path) -> Result<Locked, Trouble> {
+        Locked::at(path, fs::canonicalize(path))
+    }
+
+    /// Locks a file that is there, or the place of one that is not.
+    pub fn place(path: &Path) -> Result<Locked, Trouble> {
+        let real = fs::canonicalize(path);
+        let missing = matches!(&real, Err(error) if error.kind() == io::ErrorKind::NotFound);
+        Locked::at(path, if missing { place_of(path) } else { real })
+    }
+
+    fn at(path: &Path, real: io::Result<PathBuf>) -> Result<Locked, Trouble> {
         let name = shown(path);
-        let say = |error| Trouble::system(&name, &error);
-        let real = match fs::canonicalize(path) {
-            Err(error) if error.kind() == io::ErrorKind::NotFound => place_of(path).map_err(say)?,
-            real => real.map_err(say)?,
-        };
+        let real = real.map_err(|error| Trouble::system(&name, &error))?;
+        let say = |error| Trouble::system(&format!("the lock beside {name}"), &error);
         let lock = beside(&real, ".lock");
         loop {
             let open = OpenOptions::new().read(true).write(true).create(true).truncate(false).mode(0o600).open(&lock);
-            let mut held = open.map_err(|error| Trouble::system(&shown(&lock), &error))?;
+            let mut held = open.map_err(say)?;
             match held.try_lock() {
                 Ok(()) => {}
                 Err(TryLockError::WouldBlock) => return Err(in_use(&name, &mut held)),
-                Err(TryLockError::Error(error)) => return Err(Trouble::system(&shown(&lock), &error)),
+                Err(TryLockError::Error(error)) => return Err(say(error)),
             }
             // Whoever had it before may have taken the file away between our opening it and our locking it.
             if is_still(&held, &lock) {
@@ -85,7 +94,10 @@ impl Locked {
         if written.is_err() {
             let _ = fs::remove_file(&new);
         }
-        written.and_then(|()| File::open(folder(&self.real))?.sync_all()).map_err(|error| Trouble::system(&self.name, &error))
+        written.map_err(|error| Trouble::system(&self.name, &error))?;
+        File::open(folder(&self.real)).and_then(|folder| folder.sync_all()).map_err(|error| {
+            Trouble::other(format!("{} is written, but after a power cut now the old one could be back ({error}).", self.name))
+        })
     }
 
     /// Writes a record that is not there yet.
@@ -180,4 +192,32 @@ pub fn value(path: &Path) -> Result<Vec<u8>, Trouble> {
     let pair = |pair: &[u8]| Some(nibble(pair[0])? << 4 | nibble(*pair.get(1)?)?);
     let bytes: Option<Vec<u8>> = digits.chunks(2).map(pair).collect();
     bytes.ok_or_else(|| Trouble::not_hex(format!("{name} has something else than one value in pairs of hex digits; 32 digits are wanted.")))
+}
+
+#[cfg(test)]
+mod tests {
+    use super::*;
+    use std::sync::atomic::{AtomicBool, AtomicU32, Ordering::SeqCst};
+    use std::thread;
+
+    /// Many that take the lock and let it go: no two hold it at once, though its file is removed each time.
+    #[test]
+    fn one_at_a_time() {
+        let path = std::env::temp_dir().join(format!("perchmellow-lock-{}", std::process::id()));
+        fs::write(&path, "").unwrap();
+        let (inside, taken) = (AtomicBool::new(false), AtomicU32::new(0));
+        let many = || {
+            for _ in 0..10000 {
+                let Ok(lock) = Locked::take(&path) else { continue };
+                assert!(!inside.swap(true, SeqCst), "two hold the lock");
+                taken.fetch_add(1, SeqCst);
+                thread::yield_now();
+                inside.store(false, SeqCst);
+                drop(lock);
+            }
+        };
+        thread::scope(|scope| (0..4).for_each(|_| drop(scope.spawn(many))));
+        fs::remove_file(&path).unwrap();
+        assert!(taken.into_inner() > 0);
+    }
 }

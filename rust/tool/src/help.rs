@@ -196,6 +196,9 @@ pub const COMMANDS: &[Command] = &[
     },
 ];
 
+/// Columns of a usage line, before it is continued on the next.
+const WIDTH: usize = 100;
+
 impl Choice {
     pub fn name(&self) -> &'static str {
         self.form.split(' ').next().unwrap_or(self.form)
@@ -210,8 +213,14 @@ impl Command {
     pub fn usage(&self) -> String {
         let operands = if self.operands.is_empty() { String::new() } else { format!(" {}", self.operands) };
         let option = |o: &Choice| if o.needed { format!(" {}", o.form) } else { format!(" [{}]", o.form) };
-        let options: String = self.options.iter().map(option).collect();
-        format!("usage: perchmellow {}{operands}{options}", self.name)
+        let mut lines = vec![format!("usage: perchmellow {}{operands}", self.name)];
+        for option in self.options.iter().map(option) {
+            match lines.last_mut() {
+                Some(line) if line.len() + option.len() <= WIDTH => line.push_str(&option),
+                _ => lines.push(format!("      {option}")),
+            }
+        }
+        lines.join("\n")
     }
 
     pub fn help(&self) -> String {

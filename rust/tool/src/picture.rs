@@ -20,7 +20,7 @@ pub fn picture(args: &Args) -> Done {
     let svg = draw(&Run { name, k, slots: slots(k, schedule), steps });
     let (words, told) = match args.path("--out") {
         Some(to) => {
-            Locked::take(to)?.write_public(svg.as_bytes())?;
+            Locked::place(to)?.write_public(svg.as_bytes())?;
             (format!("{}: {} bytes of SVG\n", shown(to), svg.len()), ("file", Json::text(shown(to))))
         }
         None => (svg.clone(), ("svg", Json::text(svg))),
@@ -138,7 +138,7 @@ fn of_slots(run: &Run) -> String {
     let rounds = run.steps.len();
     let plot = rounds as f64 * cell;
     let bottom = top + run.slots as f64 * high;
-    let mut sheet = Sheet::new((left + plot + 24.0).max(480.0), bottom + 92.0, &run.title("The life of a card's slots"));
+    let mut sheet = Sheet::new((left + plot + 24.0).max(580.0), bottom + 92.0, &run.title("The life of a card's slots"));
     let x = |round: usize| left + cell * (round as f64 - 1.0);
     let y = |slot: usize| top + high * slot as f64;
 

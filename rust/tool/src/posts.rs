@@ -15,7 +15,7 @@ pub fn enrol(args: &Args) -> Done {
     let mut record = [0; POST_LEN];
     perchmellow::enrol(function, k, &anchor, &mut record)
         .map_err(|refusal| Asked::new(function, k).value("anchor", &anchor).refused("enrol", refusal))?;
-    Locked::take(path)?.write_first(&record)?;
+    Locked::place(path)?.write_first(&record)?;
     args.answer(Answer {
         words: format!(
             "{}: a post for a card of {}, {}; 0 paid\n",

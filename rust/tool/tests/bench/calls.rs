@@ -160,6 +160,16 @@ fn missed_ticks_are_taken_within_the_gap() {
 }
 
 #[test]
+fn odd_names_are_told_in_json() {
+    let folder = Folder::with_card("md5", 2, "optimal");
+    for name in ["a \"card\".pm", "back\\slash.pm", "line\nfeed.pm", "tab\there.pm", "K\u{e4}rtchen.pm"] {
+        folder.write(name, folder.read("card.pm"));
+        assert_eq!(folder.answer(&["round", name])["file"].text(), name);
+        assert!(folder.trouble(&["start", name, "--function", "md5", "--k", "2", "--seed-file", "seed.hex"]).1.contains(name));
+    }
+}
+
+#[test]
 fn the_demo_is_a_line_a_round_without_colour() {
     let text = Folder::new().good(&["demo"]);
     assert_eq!(text.lines().filter(|line| line.trim_start().starts_with(|c: char| c.is_ascii_digit())).count(), 31 + 1);

@@ -240,7 +240,7 @@ fn files_of_others_are_told() {
         command.args(args).current_dir(&folder.0).output().unwrap()
     };
     if owner != 0 {
-        fs::set_permissions(folder.path("card.pm"), fs::Permissions::from_mode(0)).unwrap();
+        fs::set_permissions(folder.path("card.pm"), fs::Permissions::from_mode(0o000)).unwrap();
         fs::set_permissions(&folder.0, fs::Permissions::from_mode(0o500)).unwrap();
     }
     let ran = [run(&["show", "card.pm"]), run(&["round", "card.pm"])];

@@ -63,13 +63,16 @@ fn a_ride_is_kept_only_when_asked() {
     assert_eq!(folder.good(&["settle", "post.pm"]), "yes: 32 steps lead from the last value to the anchor\n");
 }
 
-/// The card is saved after the post: with the card's folder full up, what was paid is put out again and refused, and nothing is lost.
+/// The post is saved before the card. Where the card then cannot be, it puts out again what the post has, and nothing is lost.
 #[test]
 fn a_ride_cut_off_between_the_two_goes_on() {
     let folder = Folder::with_card("md5", 4, "optimal");
-    let old = folder.read("card.pm");
-    folder.good(&["ride", "card.pm", "post.pm", "--ticks", "6", "--save"]);
-    folder.write("card.pm", old);
+    let card = folder.read("card.pm");
+    std::fs::create_dir(folder.path(".card.pm.new")).unwrap();
+    assert_eq!(folder.run(&["ride", "card.pm", "post.pm", "--ticks", "6", "--save"]).status, 8);
+    assert_eq!(folder.read("card.pm"), card);
+    assert_eq!(folder.answer(&["show", "post.pm"])["paid"].number(), 6);
+    std::fs::remove_dir(folder.path(".card.pm.new")).unwrap();
     let told = folder.answer(&["ride", "card.pm", "post.pm", "--save"]);
     assert_eq!(number(&told, &["ticks", "offered", "credited", "paid"]), [16, 16, 10, 16]);
     assert_eq!(told["refused"].list()[0]["times"].number(), 6);

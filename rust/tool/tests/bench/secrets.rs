@@ -19,7 +19,7 @@ fn no_output_has_the_seed_or_a_slot_in_it() {
         let put_out = usize::from(round >= 16);
         let slots: Vec<String> = record[16..].chunks(16).skip(put_out).filter(|v| v.iter().any(|b| *b != 0)).map(hex).collect();
         assert!(slots.contains(&SEED.into()), "the seed is the last that a card holds");
-        let glued = format!("--seed={SEED}");
+        let (glued, dashed, path) = (format!("--seed={SEED}"), format!("-{SEED}"), format!("./{SEED}"));
         let calls: Vec<Vec<&str>> = vec![
             vec!["show", "card.pm"],
             vec!["show", "card.pm", "--as", "post"],
@@ -31,9 +31,11 @@ fn no_output_has_the_seed_or_a_slot_in_it() {
             vec!["offer", "post.pm", "--value-file", "seed.hex"],
             vec!["offer", "post.pm", "--value-file", SEED],
             vec!["round", SEED],
+            vec!["show", &path],
             vec![SEED],
             vec!["start", "new.pm", SEED],
             vec!["start", "new.pm", &glued],
+            vec!["start", "new.pm", &dashed],
             vec!["start", "new.pm", "--seed", SEED],
             vec!["start", "new.pm", "--function", SEED, "--k", "2", "--seed-file", "seed.hex"],
             vec!["start", "new.pm", "--function", "md5", "--k", SEED, "--seed-file", "seed.hex"],
