@@ -176,7 +176,7 @@ pub fn named(text: &OsStr, table: &[(&str, u32)]) -> Option<u32> {
     table.iter().find(|(name, _)| text == *name).map(|(_, number)| *number).or_else(|| decimal(text))
 }
 
-/// A number's name, or the number itself.
-pub fn name_of(number: u32, table: &[(&'static str, u32)]) -> String {
-    table.iter().find(|(_, n)| *n == number).map_or(number.to_string(), |(name, _)| (*name).into())
+/// A number's name.
+pub fn name_of(number: u32, table: &[(&'static str, u32)]) -> &'static str {
+    table.iter().find(|(_, known)| *known == number).map_or("unknown", |(name, _)| name)
 }

@@ -2,7 +2,7 @@
 //!
 //! The library alone decides what is refused. What is read here says where the reason stands.
 
-use crate::args::{name_of, FUNCTIONS, SCHEDULES};
+use crate::args::{FUNCTIONS, SCHEDULES};
 use crate::run::held;
 use crate::say::{count, hex};
 use perchmellow::{card_len, offer, round, Refusal, CARD_HEAD_LEN, K_MOST, POST_LEN, VALUE_LEN};
@@ -87,6 +87,12 @@ impl Read {
         read
     }
 
+    /// Only whether mark and length are right: all that is said of a file that may be no record.
+    pub fn outside(mut self) -> Read {
+        self.lines.retain(|line| line.to == 2 || line.fault == Some(Refusal::WrongLength));
+        Read { lines: self.lines, ..Read::default() }
+    }
+
     /// The bytes that a refusal is about.
     pub fn fault(&self) -> Option<&Line> {
         self.lines.iter().filter(|line| line.fault.is_some()).min_by_key(|line| line.turn)
@@ -110,24 +116,31 @@ impl Read {
         self.fault_line(turn, Refusal::WrongLength, record.len(), full, format!("missing: the file has {has}, and {what} takes {full}"));
     }
 
+    /// What stands in the mark's place is not repeated: a file without a mark may be no record at all, but a seed.
     fn mark(&mut self, kind: Kind, record: &[u8]) {
-        let (mark, here) = (kind.mark(), &record[..record.len().min(2)]);
-        let words = if here == mark {
-            format!("{}: the mark of a {} record", spaced(here), kind.name())
-        } else {
-            format!("{}, where a {} record has its mark, {}", spaced(here), kind.name(), spaced(&mark))
-        };
-        self.judge(here == mark, 1, Refusal::BadRecord, 0, 2, words);
+        if record.len() < 2 {
+            return;
+        }
+        let good = Kind::of(record) == Some(kind);
+        let (mark, name) = (spaced(&kind.mark()), kind.name());
+        let words = if good { format!("{mark}, the mark of a {name} record") } else { format!("not {mark}, the mark of a {name} record") };
+        self.judge(good, 1, Refusal::BadRecord, 0, 2, words);
     }
 
-    fn function(&mut self, record: &[u8], at: usize) {
-        let Some(&number) = record.get(at) else { return };
-        self.function = Some(number.into());
-        let (good, words) = match name_of(number.into(), &FUNCTIONS) {
-            name if FUNCTIONS.iter().any(|(known, _)| *known == name) => (true, format!("function {number}, {name}")),
-            _ => (false, format!("function {number}, where 0 is md5 and 1 is aes and there is no other")),
+    /// A byte that is a number with a name.
+    fn named(&mut self, record: &[u8], at: usize, what: &str, table: &[(&str, u32)], turn: u8, refusal: Refusal) -> Option<u32> {
+        let number = u32::from(*record.get(at)?);
+        let known = table.iter().find(|(_, known)| *known == number);
+        let words = match known {
+            Some((name, _)) => format!("{what} {number}, {name}"),
+            None => format!("{what} {number}, where {} is the greatest", table.len() - 1),
         };
-        self.judge(good, 2, Refusal::UnknownFunction, at, at + 1, words);
+        self.judge(known.is_some(), turn, refusal, at, at + 1, words);
+        Some(number)
+    }
+
+    fn function(&mut self, record: &[u8]) {
+        self.function = self.named(record, 2, "function", &FUNCTIONS, 2, Refusal::UnknownFunction);
     }
 
     fn k(&mut self, record: &[u8], at: usize) {
@@ -149,19 +162,9 @@ impl Read {
     }
 
     fn card(&mut self, record: &[u8]) {
-        if record.len() >= 2 {
-            self.mark(Kind::Card, record);
-        }
-        self.function(record, 2);
-        if let Some(&number) = record.get(3) {
-            self.schedule = Some(number.into());
-            let good = usize::from(number) < SCHEDULES.len();
-            let words = match good {
-                true => format!("schedule {number}, {}", name_of(number.into(), &SCHEDULES)),
-                false => format!("schedule {number}, where 3 is the greatest"),
-            };
-            self.judge(good, 4, Refusal::UnknownSchedule, 3, 4, words);
-        }
+        self.mark(Kind::Card, record);
+        self.function(record);
+        self.schedule = self.named(record, 3, "schedule", &SCHEDULES, 4, Refusal::UnknownSchedule);
         self.k(record, 4);
         self.zeros(record, 5, 8);
         let Some(head) = record.get(..CARD_HEAD_LEN) else {
@@ -221,10 +224,8 @@ impl Read {
     }
 
     fn post(&mut self, record: &[u8]) {
-        if record.len() >= 2 {
-            self.mark(Kind::Post, record);
-        }
-        self.function(record, 2);
+        self.mark(Kind::Post, record);
+        self.function(record);
         self.k(record, 3);
         if let Some(bytes) = record.get(4..8) {
             let paid = u32::from_le_bytes([bytes[0], bytes[1], bytes[2], bytes[3]]);
@@ -238,12 +239,12 @@ impl Read {
             }
         }
         if let Some(anchor) = record.get(8..24) {
-            self.line(8, 24, format!("the anchor, {}", hex(anchor)));
+            self.line(8, 24, format!("the anchor, {}", public(record, anchor)));
         }
         let Some(held) = record.get(24..POST_LEN) else {
             return self.short(record, POST_LEN, 0, "a post record");
         };
-        let words = format!("the value held, {}", hex(held));
+        let words = format!("the value held, {}", public(record, held));
         match self.paid {
             Some(0) if held == &record[8..24] => self.line(24, 40, format!("{words}: the anchor, as it is with 0 paid")),
             Some(0) => self.fault_line(6, Refusal::BadRecord, 24, 40, format!("{words}, where with 0 paid it is the anchor")),
@@ -267,6 +268,14 @@ pub fn bytes_named(from: usize, to: usize) -> String {
     match to - from {
         0 | 1 => format!("byte {from}"),
         _ => format!("bytes {from} to {}", to - 1),
+    }
+}
+
+/// A value of a post record, which has been put out. Under another mark the same bytes may be a card's slots.
+fn public(record: &[u8], value: &[u8]) -> String {
+    match Kind::of(record) {
+        Some(Kind::Post) => hex(value),
+        _ => "not shown as the mark is not a post's".into(),
     }
 }
 

@@ -33,7 +33,13 @@ pub fn show(args: &Args) -> Done {
     let record = read(path)?;
     let kind = asked.or(Kind::of(&record)).unwrap_or_else(|| guessed(&record));
     let refusal = kind.judged(&record);
-    let told = Read::of(kind, &record);
+    let mut told = Read::of(kind, &record);
+    // A file without a mark may be a seed's: it is read on only when that is asked for, and hex digits are not even then.
+    let digits = record.iter().all(|b| b.is_ascii_hexdigit() || b.is_ascii_whitespace());
+    let outside = Kind::of(&record).is_none() && (asked.is_none() || digits);
+    if outside {
+        told = told.outside();
+    }
     let chain = match refusal {
         None | Some(Refusal::Spent) => chain(kind, &record, &told),
         _ => None,
@@ -47,6 +53,9 @@ pub fn show(args: &Args) -> Done {
     words.push_str(&verdict(kind, refusal, told.fault()));
     if let Some((_, said)) = &chain {
         words.push_str(said);
+    }
+    if outside && !digits {
+        words.push_str("A file without a mark is not read on; '--as card' or '--as post' does.\n");
     }
     args.answer(Answer { words, fields: fields(kind, &record, &told, refusal, chain.map(|(good, _)| good)) })?;
     Ok(0)

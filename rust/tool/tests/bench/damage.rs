@@ -49,9 +49,11 @@ fn every_bit(folder: &Folder, name: &str, kind: &str) -> [u32; 10] {
         record[bit / 8] ^= 1 << (bit % 8);
         let said = both_say(folder, &record, kind, &format!("bit {bit} of {name}"));
         seen[if let Value::Number(number) = said { number as usize } else { 0 }] += 1;
-        // Without being told, `show` finds the kind by the mark or by the length.
+        // Without being told, `show` finds the kind by the mark or by the length, and stops at a mark that is wrong.
         if bit < 16 {
-            assert_eq!(folder.answer(&["show", "bad.pm"])["kind"].text(), kind);
+            let told = folder.answer(&["show", "bad.pm"]);
+            assert_eq!((told["kind"].text(), told["refusal"].number(), told["bytes"].list().len()), (kind, 5, 1));
+            assert_eq!((told["fault"]["from"].number(), told["fault"]["to"].number()), (0, 1));
         }
     }
     seen
@@ -162,8 +164,12 @@ fn a_file_without_a_mark_is_read_as_asked() {
     folder.write("words", "some words that are no record at all, and long enough to be one");
     let told = folder.answer(&["show", "words"]);
     assert_eq!((told["kind"].text(), told["refused_by"].text(), told["refusal"].number()), ("card", "round", 5));
+    assert!(folder.good(&["show", "words"]).ends_with("'--as card' or '--as post' does.\n"));
     let told = folder.answer(&["show", "words", "--as", "post"]);
     assert_eq!((told["kind"].text(), told["refused_by"].text(), told["refusal"].number()), ("post", "offer", 5));
-    assert_eq!(folder.answer(&["show", "card.pm", "--as", "post"])["refusal"].number(), 5);
+    let told = folder.answer(&["show", "card.pm", "--as", "post"]);
+    assert_eq!((told["refusal"].number(), told["bytes"].list().len() > 4), (5, true));
+    let told = folder.answer(&["show", "seed.hex", "--as", "post"]);
+    assert_eq!((told["refusal"].number(), told["function"].clone()), (4, Value::Null));
     assert_eq!(folder.answer(&["show", "post.pm"])["kind"].text(), "post");
 }
