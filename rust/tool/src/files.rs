@@ -49,6 +49,9 @@ impl Locked {
     fn at(path: &Path, real: io::Result<PathBuf>) -> Result<Locked, Trouble> {
         let name = shown(path);
         let real = real.map_err(|error| Trouble::system(&name, &error))?;
+        if fs::metadata(&real).is_ok_and(|data| !data.is_file()) {
+            return Err(not_plain(&name));
+        }
         let say = |error| Trouble::system(&format!("the lock beside {name}"), &error);
         let lock = beside(&real, ".lock");
         loop {
@@ -84,11 +87,7 @@ impl Locked {
     }
 
     fn put(&self, bytes: &[u8], mode: u32) -> Result<(), Trouble> {
-        let old = match fs::metadata(&self.real) {
-            Ok(old) if !old.is_file() => return Err(Trouble::other(format!("{} is not a plain file.", self.name))),
-            Ok(old) => Some(old),
-            Err(_) => None,
-        };
+        let old = fs::metadata(&self.real).ok();
         let new = beside(&self.real, ".new");
         let written = write_new(&new, bytes, mode, old.as_ref()).and_then(|()| fs::rename(&new, &self.real));
         if written.is_err() {
@@ -123,6 +122,10 @@ fn in_use(name: &str, held: &mut File) -> Trouble {
     }
     let by = if by.is_empty() { String::new() } else { format!(", process {by}") };
     Trouble::in_use(format!("{name} is in use by another run of perchmellow{by}; wait until that has ended and run this again."))
+}
+
+fn not_plain(name: &str) -> Trouble {
+    Trouble::other(format!("{name} is not a plain file; look at the name."))
 }
 
 fn is_still(held: &File, path: &Path) -> bool {
@@ -167,7 +170,7 @@ fn read_record(path: &Path, name: &str) -> Result<Vec<u8>, Trouble> {
     let say = |error| Trouble::system(name, &error);
     let data = fs::metadata(path).map_err(say)?;
     if !data.is_file() {
-        return Err(Trouble::other(format!("{name} is not a plain file.")));
+        return Err(not_plain(name));
     }
     if data.len() > RECORD_FILE_MOST {
         return Err(Trouble::other(format!("{name} has {} bytes, and no record file is so long; look at the name.", data.len())));
