@@ -9,8 +9,6 @@ fn main() {
     for watched in ["crates", "crates.txt"] {
         println!("cargo:rerun-if-changed={}", root.join(watched).display());
     }
-    let library = root.join("target").join("staticlib");
-    println!("cargo:rerun-if-changed={}", library.join("libperchmellow.a").display());
 
     match Command::new("rt").args(["staticlib", "perchmellow"]).current_dir(&root).output() {
         Ok(done) if done.status.success() => {}
@@ -24,6 +22,13 @@ fn main() {
             exit(1);
         }
     }
-    println!("cargo:rustc-link-search=native={}", library.display());
+    // Linked from cargo's own folder: rt writes its copy anew each time, and watching that one would have every build run again.
+    let built = root.join("target").join("staticlib").join("libperchmellow.a");
+    let library = std::env::var("OUT_DIR").expect("cargo names a folder for what is built");
+    if let Err(why) = std::fs::copy(&built, Path::new(&library).join("libperchmellow.a")) {
+        eprintln!("perchmellow: {} could not be copied ({why}).", built.display());
+        exit(1);
+    }
+    println!("cargo:rustc-link-search=native={library}");
     println!("cargo:rustc-link-lib=static=perchmellow");
 }

@@ -1,11 +1,13 @@
 -- What the code of a round comes to, over plain lists and numbers, in the order of the source. Assumes nothing.
 use mathlib.Core.Path.{_≡_, refl, sym, ap, _∙_}
+use mathlib.Core.Bool.{true, false}
 use mathlib.Core.List.{List, [], _∷_, _++_, append-nil}
 use Prim.Native.Nat.{ℕ, zero, suc, _+_, _-_, _^_, _≤_, _<_}
 use native.Mathlib.Nat.{mul-le-mul-left}
 use native.Mathlib.Numerals.{add-one}
 use native.Mathlib.Omega.{arith}
-use borrow.Author.Tests.{lt-ltb, eq-eqb, ne-eqb}
+use borrow.Author.Tests.{eqb-false, ltb-false}
+use lib.Dec.{eqb, ltb}
 use lib.ListN.{length, take, drop, replicate, length-replicate}
 use lib.Pow.{pow-mono}
 use lib.Seq.{length-take-le}
@@ -202,20 +204,24 @@ module _ (head : Head) (card out : List ℕ) (ok : Sound card head) (p : ℕ) (q
   end : p ≡ 2 ^ suc (head .k)
   end = q .is ∙ ap (λ (x : ℕ). 2 ^ x) (add-one (head .k))
 
-  pub turned-spent : head .round .0 ≡ p → Turned head card out (NoRound Spent) card out
-  turned-spent e =
-      let j : ready out head ≡ Refused Spent = unfold ready in rw (eq-eqb (head .round .0) (2 ^ suc (head .k)) (e ∙ end)) refl in
+  pub turned-spent : eqb (head .round .0) p ≡ true → Turned head card out (NoRound Spent) card out
+  turned-spent t =
+      let j : ready out head ≡ Refused Spent = unfold ready in rw (← end, t) refl in
       record { says = rw j refl; leaves = rw j refl; writes = rw j refl }
 
-  module _ (n : head .round .0 ≡ p → ⊥) (w : ℕ) (wide : w ≡ widthOf head) where
-    pub turned-short : length out < w → Turned head card out (NoRound WrongLength) card out
-    turned-short l =
-        let j : ready out head ≡ Refused WrongLength =
-        unfold ready in rw (ne-eqb (head .round .0) (2 ^ suc (head .k)) (λ e. n (e ∙ sym end)), lt-ltb (length out) (widthOf head) (omega (arith, wide))) refl in
+  module _ (f : eqb (head .round .0) p ≡ false) (w : ℕ) (wide : w ≡ widthOf head) where
+    pub turned-short : ltb (length out) w ≡ true → Turned head card out (NoRound WrongLength) card out
+    turned-short t =
+        let j : ready out head ≡ Refused WrongLength = unfold ready in rw (← end, f, ← wide, t) refl in
         record { says = rw j refl; leaves = rw j refl; writes = rw j refl }
 
-    pub run-asks : w ≤ length out → Running head card out
-    run-asks l = record { sound = ok; before = omega (arith, end, ok .upto, n); wide = omega (arith, wide) }
+    pub run-asks : ltb (length out) w ≡ false → Running head card out
+    run-asks t =
+        record {
+          sound = ok;
+          before = omega (arith, end, ok .upto, eqb-false (head .round .0) p f);
+          wide = omega (arith, wide, ltb-false (length out) w t);
+        }
 
 -- ---- round
 

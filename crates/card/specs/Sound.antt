@@ -11,12 +11,12 @@ use Rattle.oneway.specs.Step.{known}
 use Rattle.pebbling.specs.Demands.{never-more-than-slots}
 use Rattle.pebbling.specs.Recursion.{slots}
 use Rattle.refusals.specs.declared.Refusal.{Refusal}
-use Rattle.refusals.specs.declared.Refusal.the-variants.{UnknownFunction, TooManyTicks, UnknownSchedule, WrongLength, BadRecord}
+use Rattle.refusals.specs.declared.Refusal.the-variants.{UnknownFunction, TooManyTicks, UnknownSchedule, WrongLength, BadRecord, Spent, NoRoom}
 use Rattle.card.specs.declared.Head.{Head}
 use Rattle.card.specs.declared.Inspected.{Inspected}
 use Rattle.card.specs.declared.Inspected.the-variants.{Refused, Card}
 use Rattle.card.specs.Record.{widthOf, held, size, headOf, freeSlots, allZero, laidOut}
-use Rattle.card.specs.Refused.{passing, numbers, roomFor, startJudged, later, inspectSlots, inspectOf, ready}
+use Rattle.card.specs.Refused.{passing, numbers, roomFor, startJudged, later, inspectSlots, inspectOf, ready, roundJudged}
 
 -- a test that was passed
 passed-by : (b : Bool) (x : Refusal) (rest : Inspected) (h : Head) → cond b (Refused x) rest ≡ Card h → (b ≡ false) × (rest ≡ Card h)
@@ -127,3 +127,24 @@ ready-passes head out n before wide =
       le-ltb (length out) (widthOf head) wide,
       le-ltb (slots (head .schedule) (head .k)) (held (later head)) (held-later head n before),
     ) refl
+
+-- and a round that passes is one of the card's rounds
+ready-runs : (out : List ℕ) (g h : Head) → ready out g ≡ Card h → (g ≡ h) × (g .round .0 ≡ 2 ^ suc (g .k) → ⊥)
+unfolding ready
+ready-runs out g h e =
+    let a = passed-by (eqb (g .round .0) (2 ^ suc (g .k))) Spent _ h e in
+    let b = passed-by (ltb (length out) (widthOf g)) WrongLength _ h (a .1) in
+    let d : Card g ≡ Card h = passed-by (ltb (slots (g .schedule) (g .k)) (held (later g))) NoRoom (Card g) h (b .1) .1 in
+    (cc, eqb-false (g .round .0) (2 ^ suc (g .k)) (a .0))
+
+pub runs : (card out : List ℕ) (h : Head) → roundJudged card out ≡ Card h → Sound card h × (h .round .0 < 2 ^ suc (h .k))
+unfolding roundJudged
+runs card out h e = go (inspectOf card) refl e
+  where
+    go : (seen : Inspected) → inspectOf card ≡ seen → passing seen (ready out) ≡ Card h → Sound card h × (h .round .0 < 2 ^ suc (h .k))
+    go (Refused x) q e = let z : _≡_ {A = ℕ} 0 1 = cc in absurd (omega arith)
+    go (Card g) q e =
+        let ok : Sound card g = sound card g q in
+        let r = ready-runs out g h e in
+        let less : g .round .0 < 2 ^ suc (g .k) = omega (arith, ok .upto, r .1) in
+        rw (← r .0) (ok, less)

@@ -144,10 +144,8 @@ fn pay(head: Head, hashes: u32, held: &[u8], out: &mut [u8]) -> RoundAnswer
     });
     records::copy(&held[..w], out);
     let left = pebbling::rounds_left(k, round);
-    RoundAnswer::Tick {
-        position: left.0 - 1,
-        hashes,
-    }
+    let position = left.0 - 1;
+    RoundAnswer::Tick { position, hashes }
 }
 
 // The round on the slots: from the record into a scratch that is made as zeros, so that the slots behind the values come out free. Only
@@ -192,10 +190,12 @@ fn turn(head: Head, card: &mut [u8], out: &mut [u8]) -> RoundAnswer
     let wide = oneway::width(Chain {
         function: head.function,
     });
-    if r == end {
+    let spent = r == end;
+    let short = out.len() < wide;
+    if spent {
         return RoundAnswer::Refused(Refusal::Spent);
     }
-    if out.len() < wide {
+    if short {
         return RoundAnswer::Refused(Refusal::WrongLength);
     }
     run(head, card, out)

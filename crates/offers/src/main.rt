@@ -2,21 +2,15 @@
 // what was offered and, behind the colon, what the counter says: a refusal's number alone, or 0 and the ticks credited.
 ghost use mathlib.Core.Path.{_≡_};
 ghost use lib.ListN.{length};
-use libc::STDOUT_FILENO;
 use oneway::Chain;
 use post::Answer;
 use post::OfferAnswer;
 use post::SettleAnswer;
+use printing::print;
+use printing::print_hex;
+use printing::print_number;
 
 const K: u32 = 8;
-
-fn text(bytes: &[u8]) {
-    io::write_all(STDOUT_FILENO, bytes);
-}
-
-fn figure(n: u32) {
-    io::print_decimal(STDOUT_FILENO, n as u64);
-}
 
 // x_n: the seed is x_0, and each element is the step from the one before.
 fn element(n: u32) -> [u8; 16]
@@ -33,33 +27,23 @@ fn element(n: u32) -> [u8; 16]
     value
 }
 
-// The bytes of a record or value in hexadecimal.
-fn line_of(bytes: &[u8]) {
-    let mut i: usize = 0;
-    while i < bytes.len() {
-        io::print_hex(STDOUT_FILENO, bytes[i] as u64, 2);
-        i += 1;
-    }
-    text(b"\n");
-}
-
 fn refused(refusal: refusals::Refusal) {
-    figure(refusals::number(refusal));
-    text(b"\n");
+    print_number(refusals::number(refusal));
+    print(b"\n");
 }
 
 // One offer of bytes with a gap limit, and what is said.
 fn say(post: &mut [u8], value: &[u8], gap: u32) {
     let answer = post::offer(post, value, gap);
-    text(b", G = ");
-    figure(gap);
-    text(b": ");
+    print(b", G = ");
+    print_number(gap);
+    print(b": ");
     match answer {
         OfferAnswer::Refused(refusal) => refused(refusal),
         OfferAnswer::Credited(ticks) => {
-            text(b"0 ");
-            figure(ticks);
-            text(b"\n");
+            print(b"0 ");
+            print_number(ticks);
+            print(b"\n");
         }
     }
 }
@@ -67,20 +51,20 @@ fn say(post: &mut [u8], value: &[u8], gap: u32) {
 // The same for x_n.
 fn tick(post: &mut [u8], n: u32, gap: u32) {
     let value = element(n);
-    text(b"x_");
-    figure(n);
+    print(b"x_");
+    print_number(n);
     say(post, &value, gap);
 }
 
 fn enrol(post: &mut [u8]) {
     let anchor = element(256);
-    text(b"anchor ");
-    line_of(&anchor);
+    print(b"anchor ");
+    print_hex(&anchor);
     let answer = post::enrol(0, K, &anchor, post);
-    text(b"enrol: ");
+    print(b"\nenrol: ");
     match answer {
         Answer::Refused(refusal) => refused(refusal),
-        Answer::Done => text(b"0\n"),
+        Answer::Done => print(b"0\n"),
     }
 }
 
@@ -89,15 +73,15 @@ fn settle(n: u32, paid: u32) {
     let anchor = element(256);
     let last = element(n);
     let answer = post::settle(0, K, &anchor, &last, paid);
-    text(b"settle x_");
-    figure(n);
-    text(b" for ");
-    figure(paid);
-    text(b": ");
+    print(b"settle x_");
+    print_number(n);
+    print(b" for ");
+    print_number(paid);
+    print(b": ");
     match answer {
         SettleAnswer::Refused(refusal) => refused(refusal),
-        SettleAnswer::Yes => text(b"0 1\n"),
-        SettleAnswer::No => text(b"0 0\n"),
+        SettleAnswer::Yes => print(b"0 1\n"),
+        SettleAnswer::No => print(b"0 0\n"),
     }
 }
 
@@ -121,40 +105,42 @@ fn rest(post: &mut [u8], n: u32) {
             ones += 1;
         }
     }
-    text(b"the ticks below x_");
-    figure(n);
-    text(b", G = 1: ");
-    figure(ones);
-    text(b" credited 1\n");
+    print(b"the ticks below x_");
+    print_number(n);
+    print(b", G = 1: ");
+    print_number(ones);
+    print(b" credited 1\n");
 }
 
 fn main() {
     let mut post = [0u8; 40];
     enrol(&mut post);
-    text(b"record ");
-    line_of(&post);
+    print(b"record ");
+    print_hex(&post);
+    print(b"\n");
     tick(&mut post, 255, 0);
     tick(&mut post, 255, 65);
     tick(&mut post, 255, 1);
     tick(&mut post, 254, 64);
-    text(b"one tick missed\n");
+    print(b"one tick missed\n");
     tick(&mut post, 252, 1);
     tick(&mut post, 252, 2);
-    text(b"63 ticks missed\n");
+    print(b"63 ticks missed\n");
     tick(&mut post, 188, 64);
-    text(b"64 ticks missed\n");
+    print(b"64 ticks missed\n");
     tick(&mut post, 123, 64);
-    text(b"the value held, again\n");
+    print(b"the value held, again\n");
     tick(&mut post, 188, 64);
-    text(b"15 bytes");
+    print(b"15 bytes");
     say(&mut post, b"fifteen bytes..", 64);
-    text(b"17 bytes");
+    print(b"17 bytes");
     say(&mut post, b"seventeen bytes..", 64);
     settle(188, 68);
     settle(188, 67);
     rest(&mut post, 188);
-    text(b"record ");
-    line_of(&post);
+    print(b"record ");
+    print_hex(&post);
+    print(b"\n");
     tick(&mut post, 0, 1);
     tick(&mut post, 0, 65);
     settle(0, 256);

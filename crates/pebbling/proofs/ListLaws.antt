@@ -1,22 +1,18 @@
--- What the code of `listing` comes to: stores of positions one behind another are `sets`, and two runs of stores, the second where the first ended, are one.
+-- What the code of `position_list` comes to: stores of positions one behind another are `sets`, and two runs of stores, the second where the first ended, are one.
 -- Assumes nothing.
 use mathlib.Core.Path.{_≡_, refl, sym, ap, _∙_}
-use mathlib.Core.List.{List, [], _∷_, _++_}
+use mathlib.Core.List.{List, _∷_, _++_}
 use Prim.Native.Nat.{ℕ, suc, _+_, _-_, _*_, _^_, _≤_, _<_}
-use native.Mathlib.Nat.{add-zero}
 use native.Mathlib.Numerals.{add-one}
 use native.Mathlib.Omega.{arith}
 use lib.ListN.{length, set, length-append, length-set}
-use lib.Seq.{sets, length-sets}
+use lib.Seq.{sets}
+use Rattle.lists.specs.Written.{Written, written-length, written-as, written-both}
 use Rattle.pebbling.specs.Len.{len, len-le, lt-len}
 use Rattle.pebbling.specs.Recursion.{place, held, positions}
 use Rattle.pebbling.specs.OnePebbler.{places, Newest, newest, newest-len, held-form, held-length}
 use Rattle.pebbling.specs.SideBySide.{positions-itself, positions-split, positions-ended}
-use Rattle.pebbling.specs.Promises.{Power, Bits, Done, Written}
-
-sets-append : (l : List ℕ) (i : ℕ) (ps qs : List ℕ) → sets l i (ps ++ qs) ≡ sets (sets l i ps) (i + length ps) qs
-sets-append l i [] qs = rw (add-zero i) refl
-sets-append l i (p ∷ ps) qs = let e : i + suc (length ps) ≡ suc i + length ps = omega arith in rw e (sets-append (set l i p) (suc i) ps qs)
+use Rattle.pebbling.specs.Promises.{Power, Bits, Done}
 
 -- ---- P_k itself: the loop over its finished y's
 
@@ -81,9 +77,6 @@ module _ (k h base p n : ℕ) (b : h < 2 ^ k) (a : Power k p) (d : Bits (p - h) 
 
 -- ---- all pebblers
 
-written-as : (ps qs list list′ : List ℕ) (at end : ℕ) → ps ≡ qs → Written ps at list end list′ → Written qs at list end list′
-written-as ps qs list list′ at end e w = rw (← e) w
-
 -- up to round 2^k P_k alone is listed
 module _ (t : ℕ → ℕ → ℕ) (k r base h whole : ℕ) (p : Power k whole) (early : r ≤ whole) (d : Done t k r h) where
   itself : held k h base ≡ positions t k r base
@@ -127,18 +120,11 @@ module _ (t : ℕ → ℕ → ℕ) (k r base whole j half : ℕ) (e : suc j ≡ 
     module _ (mid : List ℕ) (next : ℕ) (w : Written (positions t j (half + (r - whole)) (base + half)) at list next mid) where
       pub second-asks : (base + 2 ^ j ≤ 1048576) × (next + length (positions t j (r - whole) base) ≤ length mid)
       second-asks =
-          let l : length mid ≡ length list = ap length (w .holds) ∙ length-sets list at (positions t j (half + (r - whole)) (base + half)) in
+          let l : length mid ≡ length list = written-length (positions t j (half + (r - whole)) (base + half)) list mid at next w in
           (omega (arith, twice), omega (arith, sizes, w .ends))
 
       pub both-say : (list′ : List ℕ) (end : ℕ) → Written (positions t j (r - whole) base) next mid end list′ → Written (positions t k r base) at list end list′
       both-say list′ end v =
           let us : List ℕ = positions t j (half + (r - whole)) (base + half) in
           let ls : List ℕ = positions t j (r - whole) base in
-          record {
-            ends = omega (arith, v .ends, w .ends, sizes);
-            holds = v .holds
-                ∙ ap (λ (l : List ℕ). sets l next ls) (w .holds)
-                ∙ ap (λ (i : ℕ). sets (sets list at us) i ls) (w .ends)
-                ∙ sym (sets-append list at us ls)
-                ∙ ap (sets list at) (sym two);
-          }
+          written-as (us ++ ls) (positions t k r base) list list′ at end (sym two) (written-both us ls list at mid next w list′ end v)

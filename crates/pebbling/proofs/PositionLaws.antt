@@ -1,20 +1,20 @@
 -- What each way out of the position list comes to: the tests on the way there pick the case of the definition. Assumes nothing.
-use mathlib.Core.Path.{_≡_, refl, sym, ap, _∙_}
+use mathlib.Core.Path.{_≡_, refl, sym, ap}
 use mathlib.Core.List.{List, [], _∷_}
-use Prim.Native.Nat.{ℕ, suc, _+_, _-_, _^_, _≤_, _<_}
+use Prim.Native.Nat.{ℕ, suc, _+_, _^_, _≤_, _<_}
 use native.Mathlib.Omega.{arith}
 use borrow.Author.Tests.{lt-ltb, le-ltb, eq-eqb, ne-eqb}
 use lib.ListN.{length}
-use lib.Seq.{sets-eq}
 use lib.Pow.{pow-mono}
 use Rattle.lists.specs.Writing.{over}
+use Rattle.lists.specs.Written.{Written, written-front}
 use Rattle.refusals.specs.Numbers.{saidOf, number-not-0}
 use Rattle.refusals.specs.declared.Refusal.{Refusal}
 use Rattle.refusals.specs.declared.Refusal.the-variants.{TooManyTicks, UnknownSchedule, WrongLength, BadRecord}
 use Rattle.pebbling.specs.declared.PositionsAnswer.the-variants.{Listed, Refused}
 use Rattle.pebbling.specs.Recursion.{schedule, positions, work}
 use Rattle.pebbling.specs.SideBySide.{positions-ended, work-ended}
-use Rattle.pebbling.specs.Promises.{Power, Tallied, Written}
+use Rattle.pebbling.specs.Promises.{Power, Tallied}
 use Rattle.pebbling.specs.PositionList.{positionsSays, positionsLeft, Positioned}
 use Rattle.pebbling.proofs.HashLaws.{next-power}
 
@@ -90,5 +90,4 @@ module _ (k s r : ℕ) (list : List ℕ) where
 
                 pub listed-all : (next : ℕ) (list′ : List ℕ) → Written (positions (schedule s) k r 0) 0 list next list′ → Positioned k s r list (Listed n w) list′
                 listed-all next list′ x =
-                    let z : 0 + length (positions (schedule s) k r 0) ≡ length (positions (schedule s) k r 0) = omega arith in
-                    listed n w list′ (t .holds) (t .does) room (x .holds ∙ rw z at (sets-eq (positions (schedule s) k r 0) list 0 (list-asked .1)))
+                    listed n w list′ (t .holds) (t .does) room (written-front (positions (schedule s) k r 0) list list′ next (omega (arith, t .holds)) x)

@@ -1,9 +1,7 @@
 -- What the functions on numbers promise: the definition that their result equals, and the bounds by which their callers' sums fit. Assumes nothing.
 use mathlib.Core.Path.{_≡_}
-use mathlib.Core.List.{List}
 use Prim.Native.Nat.{ℕ, suc, _+_, _^_, _≤_, _<_}
 use lib.ListN.{length}
-use lib.Seq.{sets}
 use Rattle.pebbling.specs.Len.{len}
 use Rattle.pebbling.specs.OptimalLeft.{g}
 use Rattle.pebbling.specs.Recursion.{done, held, schedule, positions, work}
@@ -48,8 +46,3 @@ pub record Tallied (s k r before after works : ℕ) : Type 0 where
   pub few : before ≤ 41
   pub fewer : after ≤ 41
   pub small : works < 2 ^ k
-
--- `ps` stored into a list from entry `at` on
-pub record Written (ps : List ℕ) (at : ℕ) (list : List ℕ) (end : ℕ) (list′ : List ℕ) : Type 0 where
-  pub ends : end ≡ at + length ps
-  pub holds : list′ ≡ sets list at ps

@@ -7,7 +7,7 @@ ghost use Rattle.pebbling.specs.PositionList.{Positioned};
 use refusals::Refusal;
 
 pub mod hashes;
-mod listing;
+mod position_list;
 pub mod powers;
 pub mod tally;
 
@@ -63,7 +63,7 @@ pub fn positions(k: u32, schedule: u32, round: u32, list: &mut [u32]) -> Positio
     if list.len() < held as usize {
         return PositionsAnswer::Refused(Refusal::WrongLength);
     }
-    listing::list_all(schedule, k, RoundNumber(round), 0, 0, list);
+    position_list::list_all(schedule, k, RoundNumber(round), 0, 0, list);
     PositionsAnswer::Listed {
         held,
         hashes: counted.work,

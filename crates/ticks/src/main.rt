@@ -1,53 +1,17 @@
 // A card of 2^4 ticks, run to its end under every schedule and with both functions. Each tick is printed beside the chain's
 // element of that number, worked out straight from the seed.
 ghost use mathlib.Core.Path.{_≡_};
-ghost use Prim.Native.Nat.{_<_};
 ghost use lib.Dec.{T};
 ghost use lib.ListN.{length};
 ghost use Rattle.oneway.specs.Step.{known, width};
 use card::RoundAnswer;
-use libc::STDOUT_FILENO;
 use oneway::Chain;
+use printing::print;
+use printing::print_hex;
+use printing::print_number;
+use printing::print_schedule;
 
 const SEED: [u8; 16] = *b"perchmellow seed";
-
-fn print(text: &[u8]) {
-    io::write_all(STDOUT_FILENO, text);
-}
-
-fn print_number(n: u32) {
-    io::print_decimal(STDOUT_FILENO, n as u64);
-}
-
-fn digit(n: u8) -> u8
-    requires { ⌜ n < 16 ⌝ }
-{
-    if n < 10 { b'0' + n } else { b'a' - 10 + n }
-}
-
-fn hex(bytes: [u8; 16]) -> [u8; 32] {
-    let mut text = [0u8; 32];
-    for i in 0..16 {
-        let b = bytes[i];
-        text[2 * i] = digit(b / 16 % 16);
-        text[2 * i + 1] = digit(b % 16);
-    }
-    text
-}
-
-fn print_hex(bytes: [u8; 16]) {
-    let text = hex(bytes);
-    print(&text);
-}
-
-fn print_schedule(schedule: u32) {
-    match schedule {
-        0 => print(b"rushing"),
-        1 => print(b"speed-1"),
-        2 => print(b"speed-2"),
-        _ => print(b"optimal"),
-    }
-}
 
 // n steps of a chain, in place.
 fn steps(chain: Chain, n: u32, value: &mut [u8])
@@ -77,12 +41,12 @@ fn run_round(function: u32, record: &mut [u8], out: &mut [u8; 16]) -> u32 {
     match card::round(record, out) {
         RoundAnswer::Quiet { hashes } => hashes,
         RoundAnswer::Tick { position, hashes } => {
-            let tick = *out;
+            let own = element(function, position);
             print_number(position);
             print(b" ");
-            print_hex(tick);
+            print_hex(out);
             print(b" ");
-            print_hex(element(function, position));
+            print_hex(&own);
             print(b"\n");
             hashes
         }

@@ -2,41 +2,28 @@
 // For each: what went in, what came out, and what the document says.
 ghost use Prim.Native.Nat.{_<_, _≤_};
 ghost use lib.ListN.{length};
-use libc::STDOUT_FILENO;
+use printing::print;
+use printing::print_hex;
+use printing::print_number;
 
 // How many examples agreed, of how many.
 struct Tally {
-    agreed: u64,
-    run: u64,
+    agreed: u32,
+    run: u32,
 }
 
-fn one_more(n: u64) -> u64 {
+fn one_more(n: u32) -> u32 {
     if n < 100 { n + 1 } else { n }
 }
 
-fn print(text: &[u8]) {
-    io::write_all(STDOUT_FILENO, text);
-}
-
-fn digit(n: u8) -> u8
-    requires { ⌜ n < 16 ⌝ }
-{
-    if n < 10 { b'0' + n } else { b'a' - 10 + n }
-}
-
-fn hex(bytes: [u8; 16]) -> [u8; 32] {
-    let mut text = [0u8; 32];
+// Whether the bytes are those that the document's digits say.
+fn same(bytes: [u8; 16], says: &[u8; 32]) -> bool {
     for i in 0..16 {
-        let b = bytes[i];
-        text[2 * i] = digit(b / 16 % 16);
-        text[2 * i + 1] = digit(b % 16);
-    }
-    text
-}
-
-fn same(a: &[u8; 32], b: &[u8; 32]) -> bool {
-    for i in 0..32 {
-        if a[i] != b[i] {
+        let two = printing::digits(bytes[i]);
+        if two[0] != says[2 * i] {
+            return false;
+        }
+        if two[1] != says[2 * i + 1] {
             return false;
         }
     }
@@ -45,14 +32,13 @@ fn same(a: &[u8; 32], b: &[u8; 32]) -> bool {
 
 // The two lines below an example, and whether they are the same.
 fn compare(tally: Tally, came_out: [u8; 16], document: &[u8], says: &[u8; 32]) -> Tally {
-    let text = hex(came_out);
     print(b"  came out  ");
-    print(&text);
+    print_hex(&came_out);
     print(b"\n  ");
     print(document);
     print(b"  ");
     print(says);
-    if same(&text, says) {
+    if same(came_out, says) {
         print(b"\n");
         Tally {
             agreed: one_more(tally.agreed),
@@ -138,12 +124,10 @@ fn md5_example(tally: Tally, message: &[u8], says: &[u8; 32]) -> Tally
 }
 
 fn aes_example(tally: Tally, key: [u8; 16], block: [u8; 16], says: &[u8; 32]) -> Tally {
-    let key_text = hex(key);
-    let block_text = hex(block);
     print(b"AES-128 under ");
-    print(&key_text);
+    print_hex(&key);
     print(b" of ");
-    print(&block_text);
+    print_hex(&block);
     print(b"\n");
     compare(tally, aes::encrypt(key, block), b"FIPS 197", says)
 }
@@ -190,8 +174,8 @@ fn fips_197(t0: Tally) -> Tally {
 fn main() {
     let md5s = rfc_1321(Tally { agreed: 0, run: 0 });
     let all = fips_197(md5s);
-    io::print_decimal(STDOUT_FILENO, all.agreed);
+    print_number(all.agreed);
     print(b" of ");
-    io::print_decimal(STDOUT_FILENO, all.run);
+    print_number(all.run);
     print(b" agree\n");
 }

@@ -1,8 +1,7 @@
 -- `card::pay` meets its contract: a preparing round puts out nothing, and a later one the value in slot 0. Assumes nothing.
-use mathlib.Core.Path.{sym}
 use native.Mathlib.Omega.{arith}
 use borrow.Author.Needs.{needs}
-use lib.Seq.{length-take-le}
+use lib.ListN.{length-take}
 use Rattle.card.proofs.TurnLaws.{paid-quiet, paid-tick}
 use Rattle.card.proofs.pay.Statement.{statement}
 use Rattle.card.proofs.pay.Tie as tie
@@ -23,19 +22,19 @@ slice-aggregate-copy : tie.Need-slice-aggregate-copy
 slice-aggregate-copy c =
     let at-width = c .before in
     let start = at-width .before .before .before .before .before .before .before in
-    sym (length-take-le (at-width .width .result) (start .args .held .now) (omega (arith, at-width .width .ensures, start .pre .first)))
+    simp length-take (omega (arith, at-width .width .ensures, start .pre .first))
 
 copy-requires : tie.Need-copy-requires
 copy-requires c κs =
     let at-width = c .before .before in
     let start = at-width .before .before .before .before .before .before .before in
-    omega (arith, length-take-le (at-width .width .result) (start .args .held .now) (omega (arith, at-width .width .ensures, start .pre .first)), at-width .width .ensures, start .pre .wide)
+    simp length-take (omega (arith, at-width .width .ensures, start .pre .wide))
 
 rounds-left-requires : tie.Need-rounds-left-requires
 rounds-left-requires c κs = search needs
 
-sub-t9 : tie.Need-sub-t9
-sub-t9 c = search needs
+sub-position : tie.Need-sub-position
+sub-position c = search needs
 
 same-length : tie.Need-same-length
 same-length c = search needs
@@ -60,6 +59,6 @@ pay-spec =
     slice-aggregate-copy
     copy-requires
     rounds-left-requires
-    sub-t9
+    sub-position
     same-length
     returns-2)

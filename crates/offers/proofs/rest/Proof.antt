@@ -37,29 +37,29 @@ loop-less-2 c = omega arith
 loop-again-2 : tie.Need-loop-again-2 Inv-loop μ-loop
 loop-again-2 c = (omega arith, omega arith)
 
-slice-aggregate-text : tie.Need-slice-aggregate-text Inv-loop μ-loop
-slice-aggregate-text c = search needs
+slice-aggregate-print : tie.Need-slice-aggregate-print Inv-loop μ-loop
+slice-aggregate-print c = search needs
 
-text-requires : tie.Need-text-requires Inv-loop μ-loop
-text-requires c κs = search needs
+print-requires : tie.Need-print-requires Inv-loop μ-loop
+print-requires c κs = search needs
 
-figure-requires : tie.Need-figure-requires Inv-loop μ-loop
-figure-requires c κs = search needs
+print-number-requires : tie.Need-print-number-requires Inv-loop μ-loop
+print-number-requires c κs = search needs
 
-slice-aggregate-text-2 : tie.Need-slice-aggregate-text-2 Inv-loop μ-loop
-slice-aggregate-text-2 c = search needs
+slice-aggregate-print-2 : tie.Need-slice-aggregate-print-2 Inv-loop μ-loop
+slice-aggregate-print-2 c = search needs
 
-text-requires-2 : tie.Need-text-requires-2 Inv-loop μ-loop
-text-requires-2 c κs = search needs
+print-requires-2 : tie.Need-print-requires-2 Inv-loop μ-loop
+print-requires-2 c κs = search needs
 
-figure-requires-2 : tie.Need-figure-requires-2 Inv-loop μ-loop
-figure-requires-2 c κs = search needs
+print-number-requires-2 : tie.Need-print-number-requires-2 Inv-loop μ-loop
+print-number-requires-2 c κs = search needs
 
-slice-aggregate-text-3 : tie.Need-slice-aggregate-text-3 Inv-loop μ-loop
-slice-aggregate-text-3 c = search needs
+slice-aggregate-print-3 : tie.Need-slice-aggregate-print-3 Inv-loop μ-loop
+slice-aggregate-print-3 c = search needs
 
-text-requires-3 : tie.Need-text-requires-3 Inv-loop μ-loop
-text-requires-3 c κs = search needs
+print-requires-3 : tie.Need-print-requires-3 Inv-loop μ-loop
+print-requires-3 c κs = search needs
 
 same-length : tie.Need-same-length Inv-loop μ-loop
 same-length c = omega arith
@@ -81,13 +81,13 @@ rest-spec =
     loop-again
     loop-less-2
     loop-again-2
-    slice-aggregate-text
-    text-requires
-    figure-requires
-    slice-aggregate-text-2
-    text-requires-2
-    figure-requires-2
-    slice-aggregate-text-3
-    text-requires-3
+    slice-aggregate-print
+    print-requires
+    print-number-requires
+    slice-aggregate-print-2
+    print-requires-2
+    print-number-requires-2
+    slice-aggregate-print-3
+    print-requires-3
     same-length
     returns)

@@ -1,5 +1,5 @@
 -- `positions` meets its contract. Each way out is a case of the definition, which the tests on the way there pick (PositionLaws); the counts are what
--- `tally::count` promises and the list is what `listing::list_all` writes. Assumes nothing.
+-- `tally::count` promises and the list is what `position_list::list_all` writes. Assumes nothing.
 use borrow.Author.Needs.{needs}
 use Rattle.pebbling.proofs.PositionLaws.{refused-k, refused-schedule, refused-zero, refused-late, listed-none, round-asked, refused-length, list-asked, listed-all}
 use Rattle.pebbling.proofs.positions.Statement.{statement}

@@ -1,0 +1,60 @@
+// Writes positions into a lent list, pebbler by pebbler in the order in which they fall.
+ghost use Prim.Native.Nat.{suc, _+_, _^_, _≤_, _<_};
+ghost use lib.ListN.{length};
+ghost use Rattle.lists.specs.Written.{Written};
+ghost use Rattle.pebbling.specs.Recursion.{held, positions};
+ghost use Rattle.pebbling.specs.Recursion.{schedule as hashesOf};
+use super::RoundNumber;
+use super::hashes::hashes_done;
+use super::powers::bits;
+use super::powers::power;
+
+// P_k itself, h hashes into its preparing rounds: its newest y, and behind it the finished ones up to y_k.
+// Writes from `at` on, and returns the entry behind the last.
+fn list_own(k: u32, h: u32, base: u32, at: usize, list: &mut [u32]) -> usize
+    requires { ⌜ (k ≤ 20) × (h < 2 ^ k) × (base ≤ 1048576) × (at + length (held k h base) ≤ length (now list)) ⌝ }
+    ensures { λ end. ⌜ Written (held k h base) at (now (list .entry)) end (now (list .exit)) ⌝ }
+{
+    let whole = power(k);
+    list[at] = base + h;
+    let mut i = bits(whole - h);
+    let mut next = at + 1;
+    while i <= k {
+        let place = base + (whole - power(i));
+        list[next] = place;
+        next += 1;
+        i += 1;
+    }
+    next
+}
+
+// P_k in any of its rounds, with its children: two P_(k-1), as `tally::count` goes, the upper half first.
+pub fn list_all(
+    schedule: u32,
+    k: u32,
+    round: RoundNumber,
+    base: u32,
+    at: usize,
+    list: &mut [u32],
+) -> usize
+    requires { ⌜ (schedule ≤ 3) × (k ≤ 20) × (0 < round .0) × (round .0 < 2 ^ suc k) × (base + 2 ^ k ≤ 1048576)
+        × (at + length (positions (hashesOf schedule) k (round .0) base) ≤ length (now list)) ⌝ }
+    ensures { λ end. ⌜ Written (positions (hashesOf schedule) k (round .0) base) at (now (list .entry)) end (now (list .exit)) ⌝ }
+{
+    let r = round.0;
+    let whole = power(k);
+    if r <= whole {
+        let h = hashes_done(schedule, k, round);
+        return list_own(k, h, base, at, list);
+    }
+    let n = r - whole;
+    let j = k - 1;
+    let half = power(j);
+    if half <= n {
+        return list_all(schedule, j, RoundNumber(n), base, at, list);
+    }
+    let m = half + n;
+    let middle = base + half;
+    let next = list_all(schedule, j, RoundNumber(m), middle, at, list);
+    list_all(schedule, j, RoundNumber(n), base, next, list)
+}

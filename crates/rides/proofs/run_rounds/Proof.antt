@@ -1,0 +1,86 @@
+-- `rides::run_rounds` is safe and ends. Assumes nothing.
+use borrow.Author.Needs.{needs}
+use Prim.Native.Nat.{_≤_, _-_}
+use Rattle.rides.proofs.run_rounds.Statement.{statement}
+use Rattle.rides.proofs.run_rounds.Tie as tie
+
+abbrev Inv-loop : tie.InvT-loop
+Inv-loop k schedule card₀ post₀ ride₀ rounds₀ t9 t10 card post ride rounds = rounds ≤ 2097152
+
+abbrev μ-loop : tie.MeasureT-loop
+μ-loop k schedule card₀ post₀ ride₀ rounds₀ t9 t10 card post ride rounds = 2097152 - rounds
+
+loop-holds : tie.Need-loop-holds Inv-loop μ-loop
+loop-holds c = search needs
+
+add-count-held : tie.Need-add-count-held Inv-loop μ-loop
+add-count-held c = search needs
+
+count-held-requires : tie.Need-count-held-requires Inv-loop μ-loop
+count-held-requires c κs = search needs
+
+enum-known-counted : tie.Need-enum-known-counted Inv-loop μ-loop
+enum-known-counted c = search needs
+
+enum-told : tie.Need-enum-told Inv-loop μ-loop
+enum-told c = search needs
+
+run-round-requires : tie.Need-run-round-requires Inv-loop μ-loop
+run-round-requires c κs = search needs
+
+enum-known-after : tie.Need-enum-known-after Inv-loop μ-loop
+enum-known-after c = search needs
+
+enum-told-2 : tie.Need-enum-told-2 Inv-loop μ-loop
+enum-told-2 c = search needs
+
+add-rounds : tie.Need-add-rounds Inv-loop μ-loop
+add-rounds c = search needs
+
+loop-less : tie.Need-loop-less Inv-loop μ-loop
+loop-less c = search needs
+
+loop-again : tie.Need-loop-again Inv-loop μ-loop
+loop-again c = search needs
+
+slice-aggregate-print : tie.Need-slice-aggregate-print Inv-loop μ-loop
+slice-aggregate-print c = search needs
+
+print-requires : tie.Need-print-requires Inv-loop μ-loop
+print-requires c κs = search needs
+
+print-number-requires : tie.Need-print-number-requires Inv-loop μ-loop
+print-number-requires c κs = search needs
+
+slice-aggregate-print-2 : tie.Need-slice-aggregate-print-2 Inv-loop μ-loop
+slice-aggregate-print-2 c = search needs
+
+print-requires-2 : tie.Need-print-requires-2 Inv-loop μ-loop
+print-requires-2 c κs = search needs
+
+returns : tie.Need-returns Inv-loop μ-loop
+returns c = search needs
+
+pub run-rounds-spec : {M : Type 1} → statement M
+run-rounds-spec =
+    tie.close
+    (tie.spec
+    Inv-loop
+    μ-loop
+    loop-holds
+    add-count-held
+    count-held-requires
+    enum-known-counted
+    enum-told
+    run-round-requires
+    enum-known-after
+    enum-told-2
+    add-rounds
+    loop-less
+    loop-again
+    slice-aggregate-print
+    print-requires
+    print-number-requires
+    slice-aggregate-print-2
+    print-requires-2
+    returns)
