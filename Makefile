@@ -1,17 +1,26 @@
 # The two commands: `make demo` runs the main job, `make test` passes.
-.PHONY: help demo test rust-test bench have-rt have-cargo
+.PHONY: help demo tool build test rust-test bench have-rt have-cargo
+
+TOOL = rust/target/release/perchmellow
 
 help:
-	@echo "make demo   run the published examples on the two one-way functions"
-	@echo "make test   prove everything from nothing, try the must-fail edits, run the programs (some minutes)"
-	@echo "make rust-test   compare the proved library with plain Rust"
+	@echo "make demo        a card of 16 ticks pays a post on the terminal, a line a round"
+	@echo "make tool        build perchmellow, the bench tool, and say where it is"
+	@echo "make test        prove everything from nothing, try the must-fail edits, run the programs (some minutes)"
+	@echo "make rust-test   the Rust tests: the proved library beside plain Rust, and the bench tool"
 	@echo "make bench       time the two side by side; make bench BENCH=--markdown prints tables to paste"
 
-demo: have-rt
+demo: build
+	@$(TOOL) demo
+
+tool: build
+	@echo "the bench tool is $(TOOL); '$(TOOL) --help' says what it does"
+
+# The wrapper's build script has rt prove the library before anything is linked.
+build: have-rt have-cargo
 	@mkdir -p target
-	@echo "proving what the demo needs (a minute or two the first time) ..."
-	@rt check vectors >target/demo.log 2>&1 || { cat target/demo.log; exit 1; }
-	@target/bin/vectors
+	@echo "proving the library and building the bench tool over it (some minutes the first time) ..."
+	@cd rust && cargo build --quiet --release --offline -p tool >../target/build.log 2>&1 || { cat ../target/build.log; exit 1; }
 
 test: have-rt
 	@.ci/run
@@ -32,5 +41,5 @@ have-rt:
 
 have-cargo:
 	@command -v cargo >/dev/null 2>&1 || { \
-	  echo "perchmellow: cargo is not on the PATH; the Rust wrapper, its tests and the benchmark need Rust 1.89 or later." >&2; \
+	  echo "perchmellow: cargo is not on the PATH; the Rust wrapper, the bench tool, the tests and the benchmark need Rust 1.89 or later." >&2; \
 	  exit 2; }
