@@ -8,7 +8,7 @@ use std::os::unix::fs::{symlink, MetadataExt, PermissionsExt};
 use std::os::unix::process::CommandExt;
 use std::process::{Command, Stdio};
 use std::thread;
-use std::time::Duration;
+use std::time::Instant;
 
 /// What a file is known by: its bytes, and that it is the very same file.
 fn seal(folder: &Folder, name: &str) -> (Vec<u8>, u64, i64, i64) {
@@ -97,9 +97,9 @@ fn one_file_for_two_parts_is_told() {
     assert_eq!(seal(&folder, "card.pm"), before);
 }
 
-/// Two shells that run rounds on one card, each again where the card is in use: all rounds are run, and every tick once.
+/// Three shells that run rounds on one card, each again where the card is in use: all rounds are run, and every tick once.
 #[test]
-fn two_runs_at_once_lose_no_round() {
+fn runs_at_once_lose_no_round() {
     let folder = Folder::with_card("md5", 6, "optimal");
     let rounds = || {
         let (mut done, mut busy, mut ticks) = (0, 0, Vec::new());
@@ -119,13 +119,13 @@ fn two_runs_at_once_lose_no_round() {
             }
         }
     };
-    let (one, two) = thread::scope(|scope| {
-        let two = scope.spawn(rounds);
-        (rounds(), two.join().unwrap())
+    let all: Vec<_> = thread::scope(|scope| {
+        let shells: Vec<_> = (0..3).map(|_| scope.spawn(rounds)).collect();
+        shells.into_iter().map(|shell| shell.join().unwrap()).collect()
     });
-    assert_eq!(one.0 + two.0, 127);
-    assert!(one.1 + two.1 > 0, "the two never met, so nothing was tried");
-    let ticks = [one.2, two.2].concat();
+    assert_eq!(all.iter().map(|(done, ..)| done).sum::<u32>(), 127);
+    assert!(all.iter().any(|(_, busy, _)| *busy > 0), "they never met, so nothing was tried");
+    let ticks: Vec<u64> = all.into_iter().flat_map(|(.., ticks)| ticks).collect();
     assert_eq!(ticks.len(), 64);
     assert_eq!(ticks.into_iter().collect::<BTreeSet<_>>(), (0..64).collect());
 }
@@ -134,11 +134,15 @@ fn two_runs_at_once_lose_no_round() {
 #[test]
 fn a_run_that_is_killed_leaves_a_whole_record() {
     let folder = Folder::with_card("aes", 10, "optimal");
-    let mut round = 1;
+    let begun = Instant::now();
+    (0..5).for_each(|_| drop(folder.good(&["round", "card.pm"])));
+    let usual = begun.elapsed() / 5;
+    let mut round = 6;
     let (mut old, mut new) = (0, 0);
-    for at in 0..300u64 {
+    for at in 0..300 {
         let mut child = Command::new(TOOL).args(["round", "card.pm"]).current_dir(&folder.0).stdout(Stdio::null()).spawn().unwrap();
-        thread::sleep(Duration::from_micros(at * 37 % 3000));
+        // From at once to twice the time that a run takes.
+        thread::sleep(usual * (at % 41) / 20);
         let _ = child.kill();
         child.wait().unwrap();
         let told = folder.answer(&["show", "card.pm"]);
