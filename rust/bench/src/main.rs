@@ -3,10 +3,9 @@
 
 mod clock;
 mod measure;
-mod on_bytes;
 mod table;
 
-use measure::{chain, hash, hash_on_bytes, offer, paying_rounds, whole_runs, Figures, Paying, Spread, FUNCTIONS};
+use measure::{chain, hash, offer, paying_rounds, whole_runs, Figures, Paying, Spread, BESIDE, FUNCTIONS};
 use table::{table, text};
 
 fn main() {
@@ -30,19 +29,20 @@ fn main() {
         println!();
     }
 
-    say("Start and all 131,071 rounds of a card of 2^16 ticks under the optimal schedule: 524,288 hashes.");
+    say("Start and all 131,071 rounds of a card of 2^16 ticks under the optimal schedule: 524,288 hashes. \
+         Plain Rust's AES looks up whole columns in tables; the last row has one that keeps to bytes and the S-box, as the proved code \
+         has to.");
     let mut rows = vec![];
-    for (function, name) in FUNCTIONS {
-        let Spread { proved, plain, ratio } = whole_runs(function);
+    for (function, name, plain) in BESIDE {
+        let Spread { proved, plain, ratio } = whole_runs(function, plain);
         rows.push(vec![name.into(), proved.shown(1e3, 1), plain.shown(1e3, 1), ratio.shown(1.0, 2)]);
     }
     table(markdown, &["Whole card", "Proved, ms", "Plain, ms", "Ratio"], &rows);
 
-    say("One hash: an anchor at k = 20 less one at k = 0, through 1,048,575. Plain Rust's AES looks up whole columns in tables; the last \
-         row has one that keeps to bytes and the S-box, as the proved code has to.");
+    say("One hash: an anchor at k = 20 less one at k = 0, through 1,048,575.");
     let mut rows = vec![];
-    let named = FUNCTIONS.map(|(function, name)| (name, hash(function)));
-    for (name, Spread { proved, plain, ratio }) in named.into_iter().chain([("AES, plain on bytes", hash_on_bytes())]) {
+    for (function, name, plain) in BESIDE {
+        let Spread { proved, plain, ratio } = hash(function, plain);
         rows.push(vec![name.into(), proved.shown(1e9, 1), plain.shown(1e9, 1), ratio.shown(1.0, 2)]);
     }
     table(markdown, &["One hash", "Proved, ns", "Plain, ns", "Ratio"], &rows);

@@ -2,13 +2,16 @@
 
 use std::hint::black_box;
 
-use compare::{Calls, Plain, Proved};
+use compare::{Calls, Plain, PlainOnBytes, Proved};
 use perchmellow::{card_len, CARD_HEAD_LEN, OPTIMAL, POSITIONS_MOST, POST_LEN};
 
 use crate::clock::time;
-use crate::on_bytes;
 
 pub const FUNCTIONS: [(u32, &str); 2] = [(0, "MD5"), (1, "AES")];
+
+/// The functions beside plain Rust, and AES once more beside plain Rust that keeps to bytes.
+pub const BESIDE: [(u32, &str, &dyn Calls); 3] = [(0, "MD5", &Plain), (1, "AES", &Plain), (1, "AES, plain on bytes", &PlainOnBytes)];
+
 const SEED: [u8; 16] = *b"a seed for bench";
 
 /// Median, least and greatest of some figures.
@@ -57,9 +60,9 @@ fn pairs<const N: usize>(times: usize, proved: impl Fn() -> [f64; N], plain: imp
     })
 }
 
-/// The same measure of both.
-fn in_turns<const N: usize>(times: usize, measure: impl Fn(&dyn Calls) -> [f64; N]) -> [Spread; N] {
-    pairs(times, || measure(black_box(&Proved)), || measure(black_box(&Plain)))
+/// The same measure of the proved code and another.
+fn in_turns<const N: usize>(times: usize, plain: &dyn Calls, measure: impl Fn(&dyn Calls) -> [f64; N]) -> [Spread; N] {
+    pairs(times, || measure(black_box(&Proved)), || measure(black_box(plain)))
 }
 
 fn start(calls: &dyn Calls, function: u32, k: u32) -> Vec<u8> {
@@ -79,9 +82,9 @@ fn run(calls: &dyn Calls, record: &mut [u8], rounds: u32, out: &mut [u8]) -> u64
 }
 
 /// Start and all rounds at k = 16.
-pub fn whole_runs(function: u32) -> Spread {
+pub fn whole_runs(function: u32, plain: &dyn Calls) -> Spread {
     let k = 16;
-    let [spread] = in_turns(15, |calls| {
+    let [spread] = in_turns(15, plain, |calls| {
         let (mut hashes, mut out) = (0, [0; 16]);
         let seconds = time(|| {
             let mut record = start(calls, function, k);
@@ -94,24 +97,8 @@ pub fn whole_runs(function: u32) -> Spread {
 }
 
 /// One hash, by a chain of 2^20.
-pub fn hash(function: u32) -> Spread {
-    let [spread] = in_turns(7, |calls| [hash_by_anchors(calls, function, 20)]);
-    spread
-}
-
-/// One AES, where the plain one keeps to bytes.
-pub fn hash_on_bytes() -> Spread {
-    let walk = |steps| (0..steps).fold(black_box(SEED), |value, _| on_bytes::next(value));
-    let mut proved = [0; 16];
-    Proved.anchor(1, 3, &SEED, &mut proved).expect("an anchor can be had");
-    assert_eq!(proved, walk(8), "the two work out the same");
-    let on_bytes = || {
-        let seconds = time(|| {
-            black_box(walk(1 << 20));
-        });
-        [seconds / f64::from(1 << 20)]
-    };
-    let [spread] = pairs(7, || [hash_by_anchors(black_box(&Proved), 1, 20)], on_bytes);
+pub fn hash(function: u32, plain: &dyn Calls) -> Spread {
+    let [spread] = in_turns(7, plain, |calls| [hash_by_anchors(calls, function, 20)]);
     spread
 }
 
@@ -134,7 +121,7 @@ pub fn offer(function: u32, fits: bool) -> Spread {
     let mut post = [0; POST_LEN];
     Proved.enrol(function, 20, if fits { &held } else { &[1; 16] }, &mut post).expect("a post can be enrolled");
     let wanted = if fits { Ok(64) } else { Err(9) };
-    let [spread] = in_turns(15, |calls| {
+    let [spread] = in_turns(15, &Plain, |calls| {
         let seconds = time(|| {
             for _ in 0..OFFERS {
                 let mut record = post;
@@ -193,7 +180,7 @@ pub fn paying_rounds(function: u32, k: u32, chain: &[[u8; 16]]) -> Paying {
     };
     let hashes = run_all(&Proved, &mut records.clone()) as f64 / all;
     // a hash is timed anew beside each run, since the processor's pace changes
-    let [each, beside] = in_turns(7, |calls| {
+    let [each, beside] = in_turns(7, &Plain, |calls| {
         let mut records = records.clone();
         let hash = hash_by_anchors(calls, function, 14);
         let seconds = time(|| {

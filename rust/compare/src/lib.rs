@@ -36,6 +36,8 @@ pub trait Calls: Sync {
 
 pub struct Proved;
 pub struct Plain;
+/// Plain Rust whose AES keeps to bytes and the S-box.
+pub struct PlainOnBytes;
 
 macro_rules! calls_of {
     ($who:ident, $name:literal, $of:ident) => {
@@ -84,3 +86,4 @@ macro_rules! calls_of {
 
 calls_of!(Proved, "proved", perchmellow);
 calls_of!(Plain, "plain", plain);
+calls_of!(PlainOnBytes, "plain on bytes", plain_on_bytes);

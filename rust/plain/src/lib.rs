@@ -5,6 +5,7 @@
 
 #![forbid(unsafe_code)]
 
+#[cfg_attr(feature = "on_bytes", path = "aes_on_bytes.rs")]
 mod aes;
 mod card;
 mod function;

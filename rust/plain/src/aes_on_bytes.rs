@@ -1,5 +1,7 @@
-//! AES-128 of the zero block in plain Rust that keeps to bytes and the S-box, as document 01 asks of the proved code. Beside the plain
-//! AES with tables it shows how much of the difference is the form.
+//! Function 1 once more, in the form that document 01 asks of the proved code: bytes and the S-box, no tables of columns. With the
+//! feature `on_bytes` it takes the place of `aes`, so that the benchmark shows how much of a difference is the form.
+
+use crate::function::{bytes, words, Words};
 
 /// FIPS 197's S-box, by its rule.
 static S_BOX: [u8; 256] = {
@@ -40,7 +42,11 @@ const fn inverse(b: u8) -> u8 {
 }
 
 /// The zero block under the value as key.
-pub fn next(value: [u8; 16]) -> [u8; 16] {
+pub fn of_zero(value: Words) -> Words {
+    words(&encrypted(bytes(value)))
+}
+
+fn encrypted(value: [u8; 16]) -> [u8; 16] {
     let sub = |b: u8| S_BOX[b as usize];
     let (mut key, mut state, mut rcon) = (value, value, 1);
     for round in 1..=10 {
