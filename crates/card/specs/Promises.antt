@@ -2,16 +2,14 @@
 -- a refusal is a case of them: its number alone is said, and no byte changes. Assumes nothing.
 use mathlib.Core.Path.{_≡_, refl, sym, ap, _∙_}
 use mathlib.Core.List.{List, [], _∷_}
-use Prim.Native.Nat.{ℕ, _^_, _<_}
+use Prim.Native.Nat.{ℕ, _^_}
 use native.Mathlib.Omega.{arith}
 use Rattle.lists.specs.Values.{joined}
 use Rattle.lists.specs.Writing.{over}
 use Rattle.oneway.specs.Step.{step}
 use Rattle.oneway.specs.declared.Chain.{Chain}
 use Rattle.pebbling.specs.Recursion.{schedule, putOut, work, tick, round, chain}
-use Rattle.refusals.specs.Numbers.{numberOf, saidOf, said-tells}
-use Rattle.refusals.specs.declared.Refusal.{Refusal}
-use Rattle.refusals.specs.declared.Refusal.the-variants.{UnknownFunction, TooManyTicks, UnknownSchedule, WrongLength, BadRecord, Spent, BadGap, NoRoom, NotTaken}
+use Rattle.refusals.specs.Numbers.{saidOf, said-tells, not-refused}
 use Rattle.card.specs.declared.Head.{Head}
 use Rattle.card.specs.declared.Inspected.{Inspected}
 use Rattle.card.specs.declared.Inspected.the-variants.{Card, Refused as TurnedDown}
@@ -126,25 +124,10 @@ pub record Anchored (c : Chain) (k : ℕ) (seed out : List ℕ) (answer : Answer
 
 -- ---- what is said tells the answer, so each promise is kept by one answer and one content of each lent buffer
 
--- refusals are numbered from 1
-not-zero : (x : Refusal) → 0 < numberOf x
-not-zero UnknownFunction = omega arith
-not-zero TooManyTicks = omega arith
-not-zero UnknownSchedule = omega arith
-not-zero WrongLength = omega arith
-not-zero BadRecord = omega arith
-not-zero Spent = omega arith
-not-zero BadGap = omega arith
-not-zero NoRoom = omega arith
-not-zero NotTaken = omega arith
-
-not-done : (x : Refusal) → saidOf x ≡ 0 ∷ [] → ⊥
-not-done x e = let z : numberOf x ≡ 0 = cc in omega (arith, not-zero x)
-
 pub answer-told : (a b : Answer) → said a ≡ said b → a ≡ b
 answer-told Done Done e = refl
-answer-told Done (Refused y) e = absurd (not-done y (sym e))
-answer-told (Refused x) Done e = absurd (not-done x e)
+answer-told Done (Refused y) e = absurd (not-refused y [] (sym e))
+answer-told (Refused x) Done e = absurd (not-refused x [] e)
 answer-told (Refused x) (Refused y) e = ap Refused (said-tells x y e)
 
 pub round-answer-told : (a b : RoundAnswer) → roundSays a ≡ roundSays b → a ≡ b

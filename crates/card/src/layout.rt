@@ -172,10 +172,7 @@ fn head_bytes(head: Head) -> [u8; 16]
     ensures { λ bytes. ⌜ bytes ≡ headBytes head ⌝ }
 {
     let round = head.round;
-    let r = round.0;
-    let s = r / 256;
-    let t = s / 256;
-    let u = t / 256;
+    let r = records::word_bytes(round.0);
     [
         MARK[0],
         MARK[1],
@@ -185,10 +182,10 @@ fn head_bytes(head: Head) -> [u8; 16]
         0,
         0,
         0,
-        (r % 256) as u8,
-        (s % 256) as u8,
-        (t % 256) as u8,
-        (u % 256) as u8,
+        r[0],
+        r[1],
+        r[2],
+        r[3],
         0,
         0,
         0,

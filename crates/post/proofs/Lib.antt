@@ -1,3 +1,6 @@
 pub mod StepLaws
 pub mod ReadLaws
-pub mod CallLaws
+pub mod EnrolLaws
+pub mod OfferLaws
+pub mod SettleLaws
+pub mod StepRoom

@@ -1,6 +1,6 @@
 -- What is asked of a post, as theorems about what enrol, offer and settle say and leave. Assumes nothing.
 use mathlib.Core.Path.{_≡_, refl, sym, ap, _∙_}
-use mathlib.Core.Bool.{Bool, true, false}
+use mathlib.Core.Bool.{Bool, true, false, true≢false}
 use mathlib.Core.List.{List, [], _∷_}
 use Prim.Native.Nat.{ℕ, _+_, _^_, _≤_, _<_}
 use native.Mathlib.Omega.{arith}
@@ -12,7 +12,7 @@ use Rattle.lists.specs.Writing.{over}
 use Rattle.oneway.specs.Laws.{width-small}
 use Rattle.oneway.specs.Step.{known, step}
 use Rattle.pebbling.specs.Recursion.{chain}
-use Rattle.refusals.specs.Numbers.{saidOf}
+use Rattle.refusals.specs.Numbers.{saidOf, not-refused}
 use Rattle.refusals.specs.declared.Refusal.{Refusal}
 use Rattle.refusals.specs.declared.Refusal.the-variants.{NotTaken}
 use Rattle.post.specs.declared.Head.{Head}
@@ -26,7 +26,7 @@ use Rattle.post.specs.Search.{same, fewest, least}
 use Rattle.post.specs.Fewest.{same-eq, eq-same, First, least-found, least-some}
 use Rattle.post.specs.Sound.{Numbered, sound, Searchable, searchable, Enrollable, enrollable}
 use Rattle.post.specs.Kept.{paid-fits, Writable, written-head, written-anchor, written-held, written-passes}
-use Rattle.post.specs.Promises.{unpaid, enrolSaidBy, enrolPostBy, enrolSaid, enrolPost, limitOf, foundBy, credited, foundSaid, foundPost, offerSaidBy, offerPostBy, offerSaid, offerPost, arrivesOf, verdict, settleSaid, not-refused}
+use Rattle.post.specs.Promises.{unpaid, enrolSaidBy, enrolPostBy, enrolSaid, enrolPost, limitOf, foundBy, credited, foundSaid, foundPost, offerSaidBy, offerPostBy, offerSaid, offerPost, arrivesOf, verdict, settleSaid}
 
 -- ---- an offer that reaches the search
 
@@ -37,10 +37,6 @@ pub record Credit (head : Head) (post value : List ℕ) (gap g : ℕ) : Type 0 w
   pub within-unpaid : head .paid + g ≤ 2 ^ head .k
   pub leads : chain (step (chainOf head)) value g ≡ heldOf head post
   pub none-fewer : (j : ℕ) → 0 < j → j < g → chain (step (chainOf head)) value j ≡ heldOf head post → ⊥
-
-not-both : (b : Bool) → b ≡ true → b ≡ false → ⊥
-not-both true e f = let z : _≡_ {A = ℕ} 0 1 = cc in omega arith
-not-both false e f = let z : _≡_ {A = ℕ} 0 1 = cc in omega arith
 
 module _ (post value : List ℕ) (gap : ℕ) (head : Head) (reaches : offerJudged post value gap ≡ Post head) where
   abbrev x : ℕ → List ℕ
@@ -71,7 +67,7 @@ module _ (post value : List ℕ) (gap : ℕ) (head : Head) (reaches : offerJudge
         within-gap = omega (arith, f .upto);
         within-unpaid = omega (arith, f .upto, within);
         leads = same-eq (x g) (heldOf head post) (f .fits);
-        none-fewer = λ j a b e. not-both (fits j) (eq-same (x j) (heldOf head post) e) (f .none-fewer j a b);
+        none-fewer = λ j a b e. true≢false (sym (eq-same (x j) (heldOf head post) e) ∙ f .none-fewer j a b);
       }
 
   found-credit : (g : ℕ) → foundBy post value gap head ≡ At g → Credit head post value gap g

@@ -5,13 +5,11 @@ use mathlib.Core.Bool.{Bool, true, false}
 use mathlib.Core.List.{List, [], _∷_}
 use Prim.Native.Nat.{ℕ, _+_, _-_, _^_, min}
 use native.Mathlib.Omega.{arith}
-use lib.Dec.{eqb}
 use Rattle.lists.specs.Writing.{over}
 use Rattle.oneway.specs.Step.{step}
 use Rattle.oneway.specs.declared.Chain.{Chain}
 use Rattle.pebbling.specs.Recursion.{chain}
-use Rattle.refusals.specs.Numbers.{numberOf, saidOf, said-tells, number-not-0}
-use Rattle.refusals.specs.declared.Refusal.{Refusal}
+use Rattle.refusals.specs.Numbers.{saidOf, said-tells, not-refused}
 use Rattle.refusals.specs.declared.Refusal.the-variants.{NotTaken}
 use Rattle.post.specs.declared.Head.{Head}
 use Rattle.post.specs.declared.Inspected.{Inspected}
@@ -128,13 +126,6 @@ pub record Settled (function k : ℕ) (anchor last : List ℕ) (paid : ℕ) (ans
   pub says : settleSays answer ≡ settleSaid function k anchor last paid
 
 -- ---- what is said tells the answer, so each promise is kept by one answer and one content of the lent record
-
--- what begins with 0 is no refusal
-pub not-refused : (x : Refusal) (rest : List ℕ) → saidOf x ≡ 0 ∷ rest → ⊥
-not-refused x rest e = let z : numberOf x ≡ 0 = cc in absurd-test (ap (λ (n : ℕ). eqb n 0) z) (number-not-0 x)
-  where
-    absurd-test : {b : Bool} → b ≡ true → b ≡ false → ⊥
-    absurd-test p q = let z : _≡_ {A = Bool} true false = cc in let y : _≡_ {A = ℕ} 0 1 = cc in omega arith
 
 pub answer-told : (a b : Answer) → said a ≡ said b → a ≡ b
 answer-told Done Done e = refl

@@ -100,19 +100,16 @@ fn head_bytes(head: Head) -> [u8; 8]
     requires { ⌜ (head .function ≤ 255) × (head .k ≤ 255) ⌝ }
     ensures { λ bytes. ⌜ bytes ≡ headBytes head ⌝ }
 {
-    let r = head.paid;
-    let s = r / 256;
-    let t = s / 256;
-    let u = t / 256;
+    let paid = records::word_bytes(head.paid);
     [
         MARK[0],
         MARK[1],
         head.function as u8,
         head.k as u8,
-        (r % 256) as u8,
-        (s % 256) as u8,
-        (t % 256) as u8,
-        (u % 256) as u8,
+        paid[0],
+        paid[1],
+        paid[2],
+        paid[3],
     ]
 }
 

@@ -1,10 +1,10 @@
-// What the card's and the post's records share: bytes copied, numbers of four bytes read, and steps along a chain.
+// What the card's and the post's records share: bytes copied, numbers of four bytes read and written, and steps along a chain.
 ghost use mathlib.Core.Path.{_≡_};
 ghost use Prim.Native.Nat.{_≤_};
 ghost use lib.Dec.{T};
 ghost use lib.ListN.{length};
 ghost use Rattle.lists.specs.Writing.{over};
-ghost use Rattle.oneway.specs.Step.{known, width, step};
+ghost use Rattle.oneway.specs.Step.{known, width, step, littleEndian};
 ghost use Rattle.pebbling.specs.Recursion.{chain as element};
 ghost use Rattle.records.specs.Numbers.{number};
 use oneway::Chain;
@@ -33,6 +33,21 @@ pub fn word(bytes: &[u8]) -> u32
 {
     let high = wide(bytes[2]) + 256 * wide(bytes[3]);
     wide(bytes[0]) + 256 * (wide(bytes[1]) + 256 * high)
+}
+
+// A number as four bytes, low byte first.
+pub fn word_bytes(n: u32) -> [u8; 4]
+    ensures { λ bytes. ⌜ bytes ≡ littleEndian 4 n ⌝ }
+{
+    let second = n / 256;
+    let third = second / 256;
+    let fourth = third / 256;
+    [
+        (n % 256) as u8,
+        (second % 256) as u8,
+        (third % 256) as u8,
+        (fourth % 256) as u8,
+    ]
 }
 
 // n steps of the chain, in place.

@@ -1,8 +1,9 @@
 -- Document 01's table "Numbers said at the counter": each refusal by its meaning, and its number. Assumes nothing.
 use mathlib.Core.Path.{_≡_, refl, sym, ap, _∙_}
-use mathlib.Core.Bool.{false}
+use mathlib.Core.Bool.{false, true≢false}
 use mathlib.Core.List.{List, [], _∷_}
 use Prim.Native.Nat.{ℕ}
+use borrow.Author.Tests.{eq-eqb}
 use lib.Dec.{eqb}
 use lib.ListN.{getD}
 use Rattle.refusals.specs.declared.Refusal.{Refusal}
@@ -44,6 +45,10 @@ number-not-0 Spent = refl
 number-not-0 BadGap = refl
 number-not-0 NoRoom = refl
 number-not-0 NotTaken = refl
+
+-- so what begins with 0 is no refusal
+pub not-refused : (refusal : Refusal) (rest : List ℕ) → saidOf refusal ≡ 0 ∷ rest → ⊥
+not-refused refusal rest e = let z : numberOf refusal ≡ 0 = cc in true≢false (sym (eq-eqb (numberOf refusal) 0 z) ∙ number-not-0 refusal)
 
 -- what the counter says tells which refusal it is
 heard : List ℕ → Refusal

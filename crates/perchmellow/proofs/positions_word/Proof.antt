@@ -10,7 +10,9 @@ enum-known-answer : tie.Need-enum-known-answer
 enum-known-answer c = search needs
 
 packed-requires : tie.Need-packed-requires
-packed-requires c κs = (omega arith, rw (c .before .answer .given .1) at (c .before .before .before .pre))
+packed-requires c κs =
+    let f = rw (c .before .answer .given .1) at (c .before .before .before .pre) in
+    (omega arith, record { first-fits = omega (arith, f .first-fits, f .second-fits); second-fits = omega (arith, f .first-fits, f .second-fits) })
 
 enum-known-answer-2 : tie.Need-enum-known-answer-2
 enum-known-answer-2 c = search needs

@@ -4,7 +4,8 @@ use native.Mathlib.Omega.{arith}
 use lib.Seq.{length-take-le}
 use Rattle.oneway.specs.Laws.{width-small}
 use borrow.Author.Needs.{needs}
-use Rattle.post.proofs.CallLaws.{copy-within, copy-is, copy-wide, arrived}
+use Rattle.post.proofs.StepRoom.{copy-within, copy-is, copy-wide}
+use Rattle.post.proofs.SettleLaws.{arrived}
 use Rattle.post.proofs.arrives.Statement.{statement}
 use Rattle.post.proofs.arrives.Tie as tie
 

@@ -2,7 +2,7 @@
 use mathlib.Core.Path.{refl}
 use native.Mathlib.Omega.{arith}
 use borrow.Author.Needs.{needs}
-use Rattle.post.proofs.CallLaws.{credit-none, credit-fits, credit-asks, credit-done}
+use Rattle.post.proofs.OfferLaws.{credit-none, credit-fits, credit-asks, credit-done}
 use Rattle.post.proofs.credit.Statement.{statement}
 use Rattle.post.proofs.credit.Tie as tie
 

@@ -2,7 +2,7 @@
 use mathlib.Core.Path.{sym, _∙_}
 use borrow.Author.Needs.{needs}
 use Rattle.post.specs.Sound.{enrollable}
-use Rattle.post.proofs.CallLaws.{enrolled-refused, enrolled-done}
+use Rattle.post.proofs.EnrolLaws.{enrolled-refused, enrolled-done}
 use Rattle.post.proofs.enrol.Statement.{statement}
 use Rattle.post.proofs.enrol.Tie as tie
 

@@ -1,5 +1,5 @@
 -- `post::gap_strange` meets its contract. Assumes nothing.
-use Rattle.post.proofs.CallLaws.{gap-none, gap-some}
+use Rattle.post.proofs.OfferLaws.{gap-none, gap-some}
 use Rattle.post.proofs.gap_strange.Statement.{statement}
 use Rattle.post.proofs.gap_strange.Tie as tie
 

@@ -1,7 +1,7 @@
 -- `post::judge_enrol` meets its contract. Assumes nothing.
 use mathlib.Core.Path.{_∙_}
 use borrow.Author.Needs.{needs}
-use Rattle.post.proofs.CallLaws.{enrol-refused, enrol-passed}
+use Rattle.post.proofs.EnrolLaws.{enrol-refused, enrol-passed}
 use Rattle.post.proofs.judge_enrol.Statement.{statement}
 use Rattle.post.proofs.judge_enrol.Tie as tie
 

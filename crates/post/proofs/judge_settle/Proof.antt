@@ -2,7 +2,7 @@
 use mathlib.Core.Path.{sym, _∙_}
 use borrow.Author.Needs.{needs}
 use Rattle.post.specs.Sound.{numbers-small}
-use Rattle.post.proofs.CallLaws.{settle-refused, settle-passed}
+use Rattle.post.proofs.SettleLaws.{settle-refused, settle-passed}
 use Rattle.post.proofs.judge_settle.Statement.{statement}
 use Rattle.post.proofs.judge_settle.Tie as tie
 

@@ -1,7 +1,7 @@
 -- `post::lay` meets its contract: the anchor is written to its place, and then as the value held. Assumes nothing.
 use mathlib.Core.Path.{refl}
 use borrow.Author.Needs.{needs}
-use Rattle.post.proofs.CallLaws.{anchor-part, lay-asks, laid}
+use Rattle.post.proofs.EnrolLaws.{anchor-part, lay-asks, laid}
 use Rattle.post.proofs.lay.Statement.{statement}
 use Rattle.post.proofs.lay.Tie as tie
 

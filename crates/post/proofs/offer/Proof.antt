@@ -2,7 +2,7 @@
 use mathlib.Core.Path.{sym, _∙_}
 use borrow.Author.Needs.{needs}
 use Rattle.post.specs.Sound.{sound, searchable}
-use Rattle.post.proofs.CallLaws.{offered-refused, judged-refused, judged-passed, offered-searched}
+use Rattle.post.proofs.OfferLaws.{offered-refused, judged-refused, judged-passed, offered-searched}
 use Rattle.post.proofs.offer.Statement.{statement}
 use Rattle.post.proofs.offer.Tie as tie
 

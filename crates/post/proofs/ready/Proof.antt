@@ -1,6 +1,6 @@
 -- `post::ready` meets its contract. Assumes nothing.
 use borrow.Author.Needs.{needs}
-use Rattle.post.proofs.CallLaws.{ready-gap, ready-spent, ready-strange, ready-all}
+use Rattle.post.proofs.OfferLaws.{ready-gap, ready-spent, ready-strange, ready-all}
 use Rattle.post.proofs.ready.Statement.{statement}
 use Rattle.post.proofs.ready.Tie as tie
 

@@ -1,6 +1,6 @@
 -- `post::room_for` meets its contract. Assumes nothing.
 use borrow.Author.Needs.{needs}
-use Rattle.post.proofs.CallLaws.{anchor-strange, post-short, post-long}
+use Rattle.post.proofs.EnrolLaws.{anchor-strange, post-short, post-long}
 use Rattle.post.proofs.room_for.Statement.{statement}
 use Rattle.post.proofs.room_for.Tie as tie
 

@@ -7,7 +7,8 @@ use borrow.Author.Needs.{needs}
 use Rattle.post.specs.Record.{chainOf}
 use Rattle.post.specs.Sound.{walkable}
 use Rattle.post.proofs.ReadLaws.{fields-within}
-use Rattle.post.proofs.CallLaws.{copy-within, copy-is, copy-wide, sought}
+use Rattle.post.proofs.StepRoom.{copy-within, copy-is, copy-wide}
+use Rattle.post.proofs.OfferLaws.{sought}
 use Rattle.post.proofs.seek.Statement.{statement}
 use Rattle.post.proofs.seek.Tie as tie
 

@@ -2,7 +2,7 @@
 use mathlib.Core.Path.{sym, _∙_}
 use borrow.Author.Needs.{needs}
 use Rattle.post.specs.Sound.{settling}
-use Rattle.post.proofs.CallLaws.{settled-refused, settled-yes, settled-no}
+use Rattle.post.proofs.SettleLaws.{settled-refused, settled-yes, settled-no}
 use Rattle.post.proofs.settle.Statement.{statement}
 use Rattle.post.proofs.settle.Tie as tie
 

@@ -1,6 +1,6 @@
 -- `post::settle_ready` meets its contract. Assumes nothing.
 use borrow.Author.Needs.{needs}
-use Rattle.post.proofs.CallLaws.{settle-anchor, settle-last, settle-over, settle-all}
+use Rattle.post.proofs.SettleLaws.{settle-anchor, settle-last, settle-over, settle-all}
 use Rattle.post.proofs.settle_ready.Statement.{statement}
 use Rattle.post.proofs.settle_ready.Tie as tie
 

@@ -43,7 +43,7 @@ hashes-done-requires c κs = search needs
 hashes-in-requires : tie.Need-hashes-in-requires
 hashes-in-requires c κs =
     let s = c .before .before .before .before in
-    (s .pre .0 .schedule, not-zero _ _ (s .pre .0 .from) (s .pre .1), s .pre .0 .small, s .pre .1)
+    (omega (arith, s .pre .0 .schedule), not-zero _ _ (s .pre .0 .from) (s .pre .1), s .pre .0 .small, s .pre .1)
 
 held-after-requires : tie.Need-held-after-requires
 held-after-requires c κs = search needs

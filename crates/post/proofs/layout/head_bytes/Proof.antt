@@ -1,48 +1,52 @@
--- `post::layout::head_bytes` meets its contract: the quotients are those of the definition. Assumes nothing.
+-- `post::layout::head_bytes` meets its contract: the number's bytes are those of the definition. Assumes nothing.
 use mathlib.Core.Path.{refl}
-use borrow.Author.Needs.{needs}
 use Rattle.post.specs.Record.{headBytes}
+use borrow.Author.Needs.{needs}
 use Rattle.post.proofs.layout.head_bytes.Statement.{statement}
 use Rattle.post.proofs.layout.head_bytes.Tie as tie
 
-array-read-t9 : tie.Need-array-read-t9
-array-read-t9 c = search needs
+word-bytes-requires : tie.Need-word-bytes-requires
+word-bytes-requires c κs = search needs
 
-array-read-t13 : tie.Need-array-read-t13
-array-read-t13 c = search needs
+array-read-t7 : tie.Need-array-read-t7
+array-read-t7 c = search needs
 
-cast-t14 : tie.Need-cast-t14
-cast-t14 c = search needs
+array-read-t11 : tie.Need-array-read-t11
+array-read-t11 c = search needs
 
-cast-t15 : tie.Need-cast-t15
-cast-t15 c = search needs
+cast-t12 : tie.Need-cast-t12
+cast-t12 c = search needs
 
-cast-t17 : tie.Need-cast-t17
-cast-t17 c = search needs
+cast-t13 : tie.Need-cast-t13
+cast-t13 c = search needs
 
-cast-t19 : tie.Need-cast-t19
-cast-t19 c = search needs
+array-read-t16 : tie.Need-array-read-t16
+array-read-t16 c = search needs
 
-cast-t21 : tie.Need-cast-t21
-cast-t21 c = search needs
+array-read-t19 : tie.Need-array-read-t19
+array-read-t19 c = search needs
 
-cast-t23 : tie.Need-cast-t23
-cast-t23 c = search needs
+array-read-t22 : tie.Need-array-read-t22
+array-read-t22 c = search needs
+
+array-read-t25 : tie.Need-array-read-t25
+array-read-t25 c = search needs
 
 returns : tie.Need-returns
 unfolding headBytes
-returns c = refl
+returns c = rw (c .before .before .word-bytes .ensures) refl
 
 pub head-bytes-spec : {M : Type 1} → statement M
 head-bytes-spec =
     tie.close
     (tie.spec
-    array-read-t9
-    array-read-t13
-    cast-t14
-    cast-t15
-    cast-t17
-    cast-t19
-    cast-t21
-    cast-t23
+    word-bytes-requires
+    array-read-t7
+    array-read-t11
+    cast-t12
+    cast-t13
+    array-read-t16
+    array-read-t19
+    array-read-t22
+    array-read-t25
     returns)
