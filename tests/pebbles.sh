@@ -1,7 +1,7 @@
 #!/bin/sh
 # Runs the listing program on lines that it can read and lines that it cannot, and compares what it writes to the byte. Run it from the
-# repository's root, after `rt check pebbles`. What is right comes from document 01's example and from tests/pebbling.py, a model of the
-# recursion that was written from document 01 alone. Prints a line for each case that failed and then the count; fails if any did.
+# repository's root, after `rt check pebbles`. What is right comes from the example of docs/RULES.md and from tests/pebbling.py, a model of the
+# recursion that was written from the rules alone. Prints a line for each case that failed and then the count; fails if any did.
 # A first argument names another program to try.
 set -u
 
@@ -45,19 +45,19 @@ refuses() {
     compare "$1"
 }
 
-# ---- document 01's example, with LF, without it, and with bytes after it
+# ---- the rules' example, with LF, without it, and with bytes after it
 
 cp crates/pebbles/stdout "$work/right"
 printf 'optimal 2\n' >"$work/in"
-compare "document 01's example"
+compare "the rules' example"
 printf 'optimal 2' >"$work/in"
-compare "document 01's example, no LF"
+compare "the rules' example, no LF"
 printf 'optimal 2\nrushing 3\n' >"$work/in"
-compare "document 01's example, a second line"
+compare "the rules' example, a second line"
 printf 'optimal 2\n\000\377\r' >"$work/in"
-compare "document 01's example, any bytes after LF"
+compare "the rules' example, any bytes after LF"
 { printf 'optimal 2\n' && head -c 1000000 /dev/zero; } >"$work/in"
-compare "document 01's example, a megabyte after LF"
+compare "the rules' example, a megabyte after LF"
 
 # ---- every line that can be read
 

@@ -9,7 +9,7 @@ use lib.ListN.{length, length-append}
 use Rattle.pebbling.specs.Demands.{never-more-than-slots}
 use Rattle.pebbling.specs.Promises.{Power, Done, Holds}
 use Rattle.pebbling.specs.Recursion.{schedule, done, held, positions, slots}
-use Rattle.pebbling.specs.SideBySide.{positions-itself, positions-children, sidePositions, sidePositions-both, sidePositions-last, sidePositions-late, sideHeld, side-length}
+use Rattle.pebbling.specs.SideBySide.{positions-itself, positions-children, sidePositions, sidePositions-both, sidePositions-last, sidePositions-late, sideHeldCount, side-length}
 use Rattle.card.specs.Steps.{Aside}
 
 slots-small : (s k : ℕ) → k ≤ 20 → slots s k ≤ 41
@@ -20,7 +20,7 @@ slots-small s k h = go (eqb s 1)
     go true = omega arith
     go false = omega arith
 
--- ---- held_aside: P_k has children, and the last is P_j
+-- ---- held_count_aside: P_k has children, and the last is P_j
 
 pub level : (s k n more : ℕ) → Aside s k n more → suc (k - 1) ≡ k
 level s zero n more ok = absurd (omega (arith, ok .from, ok .before))
@@ -30,7 +30,7 @@ module _ (s j n more half : ℕ) (ok : Aside s (suc j) n more) (q : Power j half
   abbrev t : ℕ → ℕ → ℕ
   t = schedule s
 
-  late : half < n → sideHeld t j (n - half) ≡ sideHeld t (suc j) n
+  late : half < n → sideHeldCount t j (n - half) ≡ sideHeldCount t (suc j) n
   late h = rw (q .is) (sym (ap length (sidePositions-late t j n 0 (omega (arith, q .is)))))
 
   late-asks : half < n → Aside s j (n - half) more
@@ -47,10 +47,10 @@ module _ (s j n more half : ℕ) (ok : Aside s (suc j) n more) (q : Power j half
     owned : own ≡ length (held j (done t j n) 0)
     owned = o .is ∙ ap (λ (y : ℕ). length (held j y 0)) (d .is)
 
-    last : n ≡ half → more + own ≡ more + sideHeld t (suc j) n
+    last : n ≡ half → more + own ≡ more + sideHeldCount t (suc j) n
     last e = omega (arith, owned, ap length (sidePositions-last t j n 0 (omega (arith, q .is))))
 
-    both : sideHeld t j n + own ≡ sideHeld t (suc j) n
+    both : sideHeldCount t j n + own ≡ sideHeldCount t (suc j) n
     both =
         omega (
           arith,
@@ -81,20 +81,20 @@ module _ (s k n more j half : ℕ) (e : suc j ≡ k) (ok : Aside s k n more) (q 
   pub aside-late-asks : half < n → Aside s j (n - half) more
   aside-late-asks h = late-asks s j n more half ok′ q h
 
-  pub aside-late : half < n → (m : ℕ) → m ≡ more + sideHeld (schedule s) j (n - half) → m ≡ more + sideHeld (schedule s) k n
+  pub aside-late : half < n → (m : ℕ) → m ≡ more + sideHeldCount (schedule s) j (n - half) → m ≡ more + sideHeldCount (schedule s) k n
   aside-late h m f = rw (← e) (f ∙ ap (λ (x : ℕ). more + x) (late s j n more half ok′ q h))
 
   module _ (h : n ≤ half) (x own : ℕ) (d : Done (schedule s) j n x) (o : Holds j x own) where
     pub aside-few : more + own ≤ 41
     aside-few = own-few s j n more half ok′ q h x own d o
 
-    pub aside-last : n ≡ half → more + own ≡ more + sideHeld (schedule s) k n
+    pub aside-last : n ≡ half → more + own ≡ more + sideHeldCount (schedule s) k n
     aside-last f = rw (← e) (last s j n more half ok′ q h x own d o f)
 
     pub aside-both-asks : (n ≡ half → ⊥) → Aside s j n (more + own)
     aside-both-asks f = both-asks s j n more half ok′ q h x own d o f
 
-    pub aside-both : (m : ℕ) → m ≡ more + own + sideHeld (schedule s) j n → m ≡ more + sideHeld (schedule s) k n
+    pub aside-both : (m : ℕ) → m ≡ more + own + sideHeldCount (schedule s) j n → m ≡ more + sideHeldCount (schedule s) k n
     aside-both m f = rw (← e) (omega (arith, both s j n more half ok′ q h x own d o))
 
 -- ---- held
@@ -104,14 +104,14 @@ module _ (s k r : ℕ) (known : s ≤ 3) (small : k ≤ 20) (from : 0 < r) (befo
   few = omega (arith, never-more-than-slots s known k r (omega arith), slots-small s k small)
 
   module _ (h : whole < r) where
-    aside : sideHeld (schedule s) k (r - whole) ≡ length (positions (schedule s) k r 0)
+    aside : sideHeldCount (schedule s) k (r - whole) ≡ length (positions (schedule s) k r 0)
     aside = rw (q .is) (sym (ap length (positions-children (schedule s) k r 0 (omega (arith, q .is)))))
 
     pub held-asks : Aside s k (r - whole) 0
     held-asks =
         record { schedule = known; small = small; from = omega arith; before = omega (arith, q .is); few = omega (arith, few, aside) }
 
-    pub held-children : (m : ℕ) → m ≡ 0 + sideHeld (schedule s) k (r - whole) → (m ≡ length (positions (schedule s) k r 0)) × (m ≤ 41)
+    pub held-children : (m : ℕ) → m ≡ 0 + sideHeldCount (schedule s) k (r - whole) → (m ≡ length (positions (schedule s) k r 0)) × (m ≤ 41)
     held-children m e = (omega (arith, aside), omega (arith, aside, few))
 
   pub held-itself : r ≤ whole → (x m : ℕ) → Done (schedule s) k r x → Holds k x m → (m ≡ length (positions (schedule s) k r 0)) × (m ≤ 41)

@@ -25,7 +25,7 @@ use Rattle.refusals.specs.declared.Refusal.the-variants.{UnknownFunction, TooMa
 use Rattle.card.specs.declared.Head.{Head}
 use Rattle.card.specs.declared.Inspected.{Inspected}
 use Rattle.card.specs.declared.Inspected.the-variants.{Refused, Card}
-use Rattle.card.specs.Record.{widthOf, held, heldBytes, slotBytes, size, headBytes, headOf, freeSlots, allZero, laidOut}
+use Rattle.card.specs.Record.{widthOf, heldCount, heldSize, slotsSize, size, headBytes, headOf, freeSlots, allZero, laidOut}
 use Rattle.card.specs.Refused.{passing, numbers, inspectSlots, inspectOf}
 
 -- ---- zeros: what was seen is zero just where all bytes so far are
@@ -74,7 +74,7 @@ module _ (card : List ℕ) where
       unfolding laidOut
       zeros-second y f g = rw (eq-eqb (getD card 0 0) 0xB7 a, eq-eqb (getD card 1 0) 0x01 b, ← e, f) g
 
--- ---- slot_count and slot_bytes
+-- ---- slot_count and slots_size
 
 pub slots-many : (s k : ℕ) → s ≡ 1 → 3 < k → 2 * k - 2 ≡ slots s k
 unfolding slots
@@ -97,35 +97,35 @@ slots-some s k = go (eqb s 1)
     go true = omega arith
     go false = omega arith
 
-pub first-slot : (head : Head) → widthOf head ≤ slotBytes head
-unfolding slotBytes
+pub first-slot : (head : Head) → widthOf head ≤ slotsSize head
+unfolding slotsSize
 first-slot head = omega (arith, mul-le-mul-left (widthOf head) (slots-some (head .schedule) (head .k)))
 
 module _ (head : Head) (w : ℕ) (wide : w ≡ widthOf head) where
   module _ (m : ℕ) (many : (m ≡ slots (head .schedule) (head .k)) × (m ≤ 38)) where
-    pub slots-bytes : m * w ≡ slotBytes head
-    unfolding slotBytes
+    pub slots-bytes : m * w ≡ slotsSize head
+    unfolding slotsSize
     slots-bytes = rw (← wide, ← many .0) (omega arith)
 
     pub slots-fit : m * w ≤ 608
     slots-fit = omega (arith, mul-le-mul (many .1) (width-small (record { function = head .function })), ap (λ (x : ℕ). m * x) wide)
 
-  -- ---- held_bytes
+  -- ---- held_size
 
   pub held-small : (n : ℕ) → n ≤ 41 → n * w ≤ 656
   held-small n h = omega (arith, mul-le-mul h (width-small (record { function = head .function })), ap (λ (x : ℕ). n * x) wide)
 
   module _ (known : head .schedule ≤ 3) (upto : head .round .0 ≤ 2 ^ suc (head .k)) where
-    pub held-fits : heldBytes head ≤ slotBytes head
-    unfolding heldBytes slotBytes held
+    pub held-fits : heldSize head ≤ slotsSize head
+    unfolding heldSize slotsSize heldCount
     held-fits = mul-le-mul-left (widthOf head) (never-more-than-slots (head .schedule) known (head .k) (head .round .0) upto)
 
-    pub held-counted : (n : ℕ) → n ≡ length (positions (schedule (head .schedule)) (head .k) (head .round .0) 0) → n * w ≡ heldBytes head
-    unfolding heldBytes held
+    pub held-counted : (n : ℕ) → n ≡ length (positions (schedule (head .schedule)) (head .k) (head .round .0) 0) → n * w ≡ heldSize head
+    unfolding heldSize heldCount
     held-counted n e = rw (← wide, e) (omega arith)
 
-pub held-none : (head : Head) → head .schedule ≤ 3 → head .round .0 ≡ 2 ^ suc (head .k) → 0 ≡ heldBytes head
-unfolding heldBytes held
+pub held-none : (head : Head) → head .schedule ≤ 3 → head .round .0 ≡ 2 ^ suc (head .k) → 0 ≡ heldSize head
+unfolding heldSize heldCount
 held-none head known e = rw (e, none-held-at-the-end (head .schedule) known (head .k)) (omega arith)
 
 -- ---- check_numbers
@@ -149,7 +149,7 @@ module _ (head : Head) (x : Bool) (e : x ≡ known (head .function)) where
 
 -- ---- inspect_slots
 
-module _ (card : List ℕ) (head : Head) (n : ℕ) (slotted : (n ≡ slotBytes head) × (n ≤ 608)) where
+module _ (card : List ℕ) (head : Head) (n : ℕ) (slotted : (n ≡ slotsSize head) × (n ≤ 608)) where
   whole : 16 + n ≡ size head
   unfolding size
   whole = ap (λ (x : ℕ). 16 + x) (slotted .0)
@@ -178,7 +178,7 @@ module _ (card : List ℕ) (head : Head) (n : ℕ) (slotted : (n ≡ slotBytes h
         pub round-in : head .round .0 ≤ 2 ^ suc (head .k)
         round-in = omega (arith, end)
 
-        module _ (m : ℕ) (used : (m ≡ heldBytes head) × (m ≤ slotBytes head)) where
+        module _ (m : ℕ) (used : (m ≡ heldSize head) × (m ≤ slotsSize head)) where
           part : take (16 + n - (16 + m)) (drop (16 + m) card) ≡ freeSlots head card
           unfolding freeSlots
           part = rw (← whole, ← used .0) refl

@@ -23,9 +23,9 @@ use Rattle.card.specs.declared.Head.{Head}
 use Rattle.card.specs.declared.Inspected.{Inspected}
 use Rattle.card.specs.declared.Inspected.the-variants.{Refused, Card}
 use Rattle.card.specs.declared.Answer.the-variants.{Done, Refused as NotDone}
-use Rattle.card.specs.Record.{widthOf, slotBytes, size, headBytes, filled, cardBytes}
+use Rattle.card.specs.Record.{widthOf, slotsSize, size, headBytes, filled, cardBytes}
 use Rattle.card.specs.Refused.{passing, numbers, roomFor, startJudged, anchorJudged}
-use Rattle.card.specs.Promises.{first, startSaid, startCard, Started, anchorSaid, anchorOut, Anchored}
+use Rattle.card.specs.Promises.{first, startMustSay, startCard, Started, anchorMustSay, anchorOut, Anchored}
 use Rattle.card.specs.Sound.{Startable}
 use Rattle.card.specs.Steps.{Puttable}
 use Rattle.card.proofs.ReadLaws.{first-slot}
@@ -47,7 +47,7 @@ zeros-behind p n m a b =
     (take-at (replicate (n - p) z) (replicate (m - n) z) (n - p) (length-replicate (n - p) z))
 
 -- values at the front of m zeros, of which n bytes are taken: the record's slots
-pub slots-filled : (head : Head) (vs : List (List ℕ)) (front slots : List ℕ) (n m : ℕ) → n ≡ slotBytes head → joined vs ≡ front → length front ≤ n → n ≤ m
+pub slots-filled : (head : Head) (vs : List (List ℕ)) (front slots : List ℕ) (n m : ℕ) → n ≡ slotsSize head → joined vs ≡ front → length front ≤ n → n ≤ m
     → take (length front) slots ≡ front → drop (length front) slots ≡ drop (length front) (replicate m 0) → take n slots ≡ filled head vs
 unfolding filled
 slots-filled head vs front slots n m e j a b t d =
@@ -63,7 +63,7 @@ module _ (seed card : List ℕ) (head : Head) (w : ℕ) (wide : w ≡ widthOf he
   unfolding roomFor
   seed-strange n = rw (ne-eqb (length seed) (widthOf head) (λ e. n (e ∙ sym wide))) refl
 
-  module _ (l : length seed ≡ w) (n : ℕ) (slotted : (n ≡ slotBytes head) × (n ≤ 608)) where
+  module _ (l : length seed ≡ w) (n : ℕ) (slotted : (n ≡ slotsSize head) × (n ≤ 608)) where
     whole : 16 + n ≡ size head
     unfolding size
     whole = ap (λ (x : ℕ). 16 + x) (slotted .0)
@@ -91,7 +91,7 @@ module _ (head : Head) (seed card : List ℕ) (checked : Inspected) (numbered : 
 
 -- ---- lay
 
-module _ (head : Head) (seed card : List ℕ) (ok : Startable seed card head) (n : ℕ) (slotted : (n ≡ slotBytes head) × (n ≤ 608)) where
+module _ (head : Head) (seed card : List ℕ) (ok : Startable seed card head) (n : ℕ) (slotted : (n ≡ slotsSize head) × (n ≤ 608)) where
   pub seed-fits : length seed ≤ n
   seed-fits = omega (arith, ok .seeded, slotted .0, first-slot head)
 
@@ -127,19 +127,19 @@ module _ (head : Head) (seed card : List ℕ) (ok : Startable seed card head) (n
 module _ (function k schedule : ℕ) (seed card : List ℕ) where
   pub started-refused : (refusal : Refusal) → startJudged (first function k schedule) seed card ≡ Refused refusal
       → Started function k schedule seed card (NotDone refusal) card
-  unfolding startSaid startCard
+  unfolding startMustSay startCard
   started-refused refusal e = record { says = rw e refl; leaves = rw e refl }
 
   pub started-done : (h : Head) (card′ : List ℕ) → startJudged (first function k schedule) seed card ≡ Card h → card′ ≡ over (cardBytes h (seed ∷ [])) card
       → Started function k schedule seed card Done card′
-  unfolding startSaid startCard
+  unfolding startMustSay startCard
   started-done h card′ e l = record { says = rw e refl; leaves = rw e l }
 
 -- ---- anchor
 
 module _ (c : Chain) (k : ℕ) (seed out : List ℕ) where
   pub anchor-refused : (refusal : Refusal) → anchorJudged c k seed out ≡ NotDone refusal → Anchored c k seed out (NotDone refusal) out
-  unfolding anchorSaid anchorOut
+  unfolding anchorMustSay anchorOut
   anchor-refused refusal e = record { says = rw e refl; writes = rw e refl }
 
   module _ (x : Bool) (e : x ≡ known (c .function)) where
@@ -172,7 +172,7 @@ module _ (c : Chain) (k : ℕ) (seed out : List ℕ) where
               anchor-front = ap (take w) copied ∙ take-at seed (drop (length seed) out) w l
 
               pub anchor-done : (p : ℕ) (y : List ℕ) → Power k p → y ≡ chain (step c) (take w mid) p → Anchored c k seed out Done (y ++ drop w mid)
-              unfolding anchorSaid anchorOut
+              unfolding anchorMustSay anchorOut
               anchor-done p y q h =
                   let v : y ≡ chain (step c) seed (2 ^ k) = h ∙ rw (anchor-front, q .is) refl in
                   let d : drop w mid ≡ drop w out = ap (drop w) copied ∙ drop-at seed (drop (length seed) out) w l ∙ rw l refl in

@@ -28,9 +28,9 @@ use Rattle.card.specs.declared.Inspected.{Inspected}
 use Rattle.card.specs.declared.Inspected.the-variants.{Refused, Card}
 use Rattle.card.specs.declared.RoundAnswer.{RoundAnswer}
 use Rattle.card.specs.declared.RoundAnswer.the-variants.{Quiet, Tick, Refused as NoRound}
-use Rattle.card.specs.Record.{chainOf, widthOf, held, heldBytes, slotBytes, size, headBytes, filled, cardBytes, heldValues}
+use Rattle.card.specs.Record.{chainOf, widthOf, heldCount, heldSize, slotsSize, size, headBytes, filled, cardBytes, heldValues}
 use Rattle.card.specs.Refused.{later, inspectOf, ready, roundJudged}
-use Rattle.card.specs.Promises.{roundSaid, roundCard, roundOut, Rounded}
+use Rattle.card.specs.Promises.{roundMustSay, roundCard, roundOut, Rounded}
 use Rattle.card.specs.Sound.{Numbered, Sound, held-later, ready-passes}
 use Rattle.card.specs.Steps.{Puttable, Running, Turned, Payable, Paid}
 use Rattle.card.proofs.ReadLaws.{first-slot}
@@ -63,7 +63,7 @@ module _ (head : Head) (hashes : ℕ) (slots out : List ℕ) (ok : Payable head 
       let h : r < 2 ^ k = omega (arith, q .is) in
       record {
         says = rw (preparing-rounds-are-quiet k r h) refl;
-        writes = rw (tick-none t k r (values (widthOf head) (held head) slots) h) refl;
+        writes = rw (tick-none t k r (values (widthOf head) (heldCount head) slots) h) refl;
       }
 
   module _ (p : ℕ) (q : Power (head .k) p) (l : p ≤ head .round .0) where
@@ -71,15 +71,15 @@ module _ (head : Head) (hashes : ℕ) (slots out : List ℕ) (ok : Payable head 
     paying = omega (arith, q .is)
 
     -- the value in slot 0 is the one put out
-    put-out : (w : ℕ) → w ≡ widthOf head → joined (tick t k r (values (widthOf head) (held head) slots)) ≡ take w slots
-    unfolding held
+    put-out : (w : ℕ) → w ≡ widthOf head → joined (tick t k r (values (widthOf head) (heldCount head) slots)) ≡ take w slots
+    unfolding heldCount
     put-out w e =
         let c : ℕ = 2 ^ suc k - r - 1 in
         let s : r + suc c ≡ 2 ^ suc k = omega (arith, ok .before) in
-        let n : 0 < held head =
+        let n : 0 < heldCount head =
         some (positions t k r 0) c (first-is-put-out (head .schedule) (ok .schedule) k r c paying s ∙ paying-rounds-pay k r c paying s) in
-        rw (tick-first t k r (values (widthOf head) (held head) slots) paying (ok .before) (values-length (widthOf head) (held head) slots))
-        (first-value (widthOf head) (held head) slots n ∙ rw e refl)
+        rw (tick-first t k r (values (widthOf head) (heldCount head) slots) paying (ok .before) (values-length (widthOf head) (heldCount head) slots))
+        (first-value (widthOf head) (heldCount head) slots n ∙ rw e refl)
 
     pub paid-tick : (w c : ℕ) (out′ : List ℕ) → w ≡ widthOf head → Left (head .k) (head .round .0) c → out′ ≡ over (take w slots) out
         → Paid head hashes slots out (Tick (c - 1) hashes) out′
@@ -96,18 +96,18 @@ module _ (head : Head) (card out : List ℕ) (ok : Running head card out) where
   abbrev nr : Numbered head
   nr = ok .sound .numbered
 
-  later-fits : heldBytes (later head) ≤ slotBytes head
-  unfolding heldBytes slotBytes
+  later-fits : heldSize (later head) ≤ slotsSize head
+  unfolding heldSize slotsSize
   later-fits = mul-le-mul-left (widthOf head) (held-later head (ok .sound .numbered) (ok .before))
 
-  held-fits : heldBytes head ≤ slotBytes head
-  unfolding heldBytes slotBytes held
+  held-fits : heldSize head ≤ slotsSize head
+  unfolding heldSize slotsSize heldCount
   held-fits = mul-le-mul-left (widthOf head) (never-more-than-slots (head .schedule) (nr .schedule) (head .k) (head .round .0) (ok .sound .upto))
 
   judged : ready out head ≡ Card head
   judged = ready-passes head out (ok .sound .numbered) (ok .before) (ok .wide)
 
-  module _ (n : ℕ) (slotted : (n ≡ slotBytes head) × (n ≤ 608)) where
+  module _ (n : ℕ) (slotted : (n ≡ slotsSize head) × (n ≤ 608)) where
     pub end-in : 16 + n ≤ length card
     unfolding size
     end-in = omega (arith, slotted .0, ok .sound .long)
@@ -120,7 +120,7 @@ module _ (head : Head) (card out : List ℕ) (ok : Running head card out) where
 
     pub advance-asks : (zeros : List ℕ) → zeros ≡ replicate 608 0
         → Advancing (chainOf head) (head .schedule) (head .k) (head .round .0) (take (16 + n - 16) (drop 16 card)) zeros
-    unfolding heldBytes held
+    unfolding heldSize heldCount
     advance-asks zeros e =
         let z : ℕ = 0 in
         record {
@@ -148,8 +148,8 @@ module _ (head : Head) (card out : List ℕ) (ok : Running head card out) where
 
     module _ (next : List ℕ) (rd wr hs : ℕ) (kept : length next ≡ 608)
         (moved : Advanced (chainOf head) (head .schedule) (head .k) (head .round .0) (take (16 + n - 16) (drop 16 card)) (replicate 608 0) rd wr hs next) where
-      written : wr ≡ heldBytes (later head)
-      unfolding heldBytes held
+      written : wr ≡ heldSize (later head)
+      unfolding heldSize heldCount
       written = moved .writes
 
       pub never-full : n < wr → ⊥
@@ -165,24 +165,24 @@ module _ (head : Head) (card out : List ℕ) (ok : Running head card out) where
             room = omega (arith, end-in, length-take-le n next (omega (arith, slotted .1)));
           })
 
-      values-before : values (widthOf head) (held head) old ≡ heldValues head card
-      unfolding heldValues heldBytes
-      values-before = values-take (widthOf head) (held head) (16 + n - 16) (drop 16 card) (omega (arith, held-fits, slotted .0))
+      values-before : values (widthOf head) (heldCount head) old ≡ heldValues head card
+      unfolding heldValues heldSize
+      values-before = values-take (widthOf head) (heldCount head) (16 + n - 16) (drop 16 card) (omega (arith, held-fits, slotted .0))
 
       abbrev vs : List (List ℕ)
       vs = round (schedule (head .schedule)) (step (chainOf head)) (head .k) (head .round .0) (heldValues head card)
 
-      front : joined vs ≡ take (heldBytes (later head)) next
-      unfolding heldBytes held
+      front : joined vs ≡ take (heldSize (later head)) next
+      unfolding heldSize heldCount
       front =
           ap (λ (x : List (List ℕ)). joined (round (schedule (head .schedule)) (step (chainOf head)) (head .k) (head .round .0) x)) (sym values-before)
           ∙ ap joined (sym (moved .holds))
-          ∙ joined-values (widthOf head) (held (later head)) next
+          ∙ joined-values (widthOf head) (heldCount (later head)) next
 
       slots-after : take n next ≡ filled (later head) vs
-      unfolding slotBytes heldBytes held
+      unfolding slotsSize heldSize heldCount
       slots-after =
-          let m = heldBytes (later head) in
+          let m = heldSize (later head) in
           let l : length (take m next) ≡ m = length-take-le m next (omega (arith, later-fits, slotted .0, slotted .1)) in
           slots-filled (later head) vs (take m next) next n 608 (slotted .0) front (omega (arith, l, later-fits, slotted .0)) (slotted .1)
           (ap (λ (x : ℕ). take x next) l)
@@ -227,11 +227,11 @@ module _ (head : Head) (card out : List ℕ) (ok : Sound card head) (p : ℕ) (q
 
 module _ (card out : List ℕ) (seen : Inspected) (e : seen ≡ inspectOf card) where
   pub round-refused : (refusal : Refusal) → seen ≡ Refused refusal → Rounded card out (NoRound refusal) card out
-  unfolding roundSaid roundCard roundOut roundJudged
+  unfolding roundMustSay roundCard roundOut roundJudged
   round-refused refusal s = record { says = rw (← e, s) refl; leaves = rw (← e, s) refl; writes = rw (← e, s) refl }
 
   pub round-turned : (head : Head) (answer : RoundAnswer) (card′ out′ : List ℕ) → seen ≡ Card head → Turned head card out answer card′ out′
       → Rounded card out answer card′ out′
-  unfolding roundSaid roundCard roundOut roundJudged
+  unfolding roundMustSay roundCard roundOut roundJudged
   round-turned head answer card′ out′ s t =
       record { says = rw (← e, s) (t .says); leaves = rw (← e, s) (t .leaves); writes = rw (← e, s) (t .writes) }

@@ -20,19 +20,19 @@ use Rattle.pebbling.specs.Recursion.{schedule, positions, putOut, work, tick, r
 use Rattle.refusals.specs.declared.Refusal.the-variants.{WrongLength, Spent, NoRoom}
 use Rattle.card.specs.declared.Head.{Head}
 use Rattle.card.specs.declared.Inspected.the-variants.{Refused, Card}
-use Rattle.card.specs.Record.{widthOf, held, cardBytes}
+use Rattle.card.specs.Record.{widthOf, heldCount, cardBytes}
 use Rattle.card.specs.Refused.{anchorJudged, later, inspectOf, ready, roundJudged}
-use Rattle.card.specs.Promises.{startSaid, startCard, ranSays, roundSaidBy, roundSaid, roundOut, anchorOut}
+use Rattle.card.specs.Promises.{startMustSay, startCard, tickOrQuiet, judgedRoundSays, roundMustSay, roundOut, anchorOut}
 use Rattle.card.specs.Sound.{Sound, sound, held-later}
-use Rattle.card.specs.Run.{headAt, Given, after, heldAt, start-passes, head-read, round-passes, after-holds, after-puts-out}
+use Rattle.card.specs.Run.{headAt, Given, after, recordAt, start-passes, head-read, round-passes, after-holds, after-puts-out}
 
 module _ (function k s : ℕ) (seed lent : List ℕ) (given : Given function k s seed lent) where
   abbrev c : Chain
   c = record { function = function }
 
   -- start is done, and leaves the seed in slot 0
-  pub start-starts : startSaid function k s seed lent ≡ 0 ∷ []
-  unfolding startSaid
+  pub start-starts : startMustSay function k s seed lent ≡ 0 ∷ []
+  unfolding startMustSay
   start-starts = rw (start-passes function k s seed lent given) refl
 
   pub start-holds-the-seed : startCard function k s seed lent ≡ over (cardBytes (headAt function k s 1) (seed ∷ [])) lent
@@ -43,10 +43,10 @@ module _ (function k s : ℕ) (seed lent : List ℕ) (given : Given function k s
     abbrev card : ℕ → List ℕ
     card n = after function k s seed lent outs n
 
-    holds : (n : ℕ) → suc n ≤ 2 ^ suc k → card n ≡ heldAt function k s seed lent (suc n)
+    holds : (n : ℕ) → suc n ≤ 2 ^ suc k → card n ≡ recordAt function k s seed lent (suc n)
     holds = after-holds function k s seed lent given outs wide
 
-    passes : (n : ℕ) → suc n < 2 ^ suc k → roundJudged (heldAt function k s seed lent (suc n)) (outs n) ≡ Card (headAt function k s (suc n))
+    passes : (n : ℕ) → suc n < 2 ^ suc k → roundJudged (recordAt function k s seed lent (suc n)) (outs n) ≡ Card (headAt function k s (suc n))
     passes n h = round-passes function k s seed lent given (suc n) (outs n) (omega arith) h (wide n)
 
     -- before round n + 1 the record holds the chain's elements at the positions of the recursion, in falling order from slot 0, zeros in
@@ -56,8 +56,8 @@ module _ (function k s : ℕ) (seed lent : List ℕ) (given : Given function k s
     card-holds-its-positions = holds
 
     -- a preparing round is quiet, says the recursion's hashes and leaves the out buffer alone
-    pub preparing-round-says : (n : ℕ) → suc n < 2 ^ k → roundSaid (after function k s seed lent outs n) (outs n) ≡ 0 ∷ 0 ∷ work (schedule s) k (suc n) ∷ []
-    unfolding roundSaid
+    pub preparing-round-says : (n : ℕ) → suc n < 2 ^ k → roundMustSay (after function k s seed lent outs n) (outs n) ≡ 0 ∷ 0 ∷ work (schedule s) k (suc n) ∷ []
+    unfolding roundMustSay
     preparing-round-says n h = rw (holds n (omega arith), passes n (omega arith), preparing-rounds-are-quiet k (suc n) h) refl
 
     pub preparing-round-writes-nothing : (n : ℕ) → suc n < 2 ^ k → roundOut (after function k s seed lent outs n) (outs n) ≡ outs n
@@ -68,8 +68,8 @@ module _ (function k s : ℕ) (seed lent : List ℕ) (given : Given function k s
 
     -- a paying round with i rounds left after it says the tick at position i and the recursion's hashes, and puts out x_i
     pub paying-round-says : (n i : ℕ) → 2 ^ k ≤ suc n → suc n + suc i ≡ 2 ^ suc k
-        → roundSaid (after function k s seed lent outs n) (outs n) ≡ 0 ∷ 1 ∷ i ∷ work (schedule s) k (suc n) ∷ []
-    unfolding roundSaid
+        → roundMustSay (after function k s seed lent outs n) (outs n) ≡ 0 ∷ 1 ∷ i ∷ work (schedule s) k (suc n) ∷ []
+    unfolding roundMustSay
     paying-round-says n i h e = rw (holds n (omega arith), passes n (omega arith), paying-rounds-pay k (suc n) i h e) refl
 
     pub paying-round-pays : (n i : ℕ) → 2 ^ k ≤ suc n → suc n + suc i ≡ 2 ^ suc k
@@ -81,7 +81,7 @@ module _ (function k s : ℕ) (seed lent : List ℕ) (given : Given function k s
 
     -- under the optimal schedule no paying round does more hashes than half of k, rounded up
     pub optimal-paying-round-is-short : s ≡ 3 → (n i hashes : ℕ) → 2 ^ k ≤ suc n → suc n + suc i ≡ 2 ^ suc k
-        → roundSaid (after function k s seed lent outs n) (outs n) ≡ 0 ∷ 1 ∷ i ∷ hashes ∷ [] → hashes ≤ (k + 1) / 2
+        → roundMustSay (after function k s seed lent outs n) (outs n) ≡ 0 ∷ 1 ∷ i ∷ hashes ∷ [] → hashes ≤ (k + 1) / 2
     optimal-paying-round-is-short o n i hashes h e says =
         let said : 0 ∷ 1 ∷ i ∷ hashes ∷ [] ≡ 0 ∷ 1 ∷ i ∷ work (schedule s) k (suc n) ∷ [] = sym says ∙ paying-round-says n i h e in
         let same : hashes ≡ work (schedule s) k (suc n) = cc in
@@ -89,8 +89,8 @@ module _ (function k s : ℕ) (seed lent : List ℕ) (given : Given function k s
         rw (same, o) short
 
     -- when all rounds are run, the next one is refused
-    pub spent-card-says-6 : (n : ℕ) (out : List ℕ) → suc n ≡ 2 ^ suc k → roundSaid (after function k s seed lent outs n) out ≡ 6 ∷ []
-    unfolding roundSaid roundJudged ready
+    pub spent-card-says-6 : (n : ℕ) (out : List ℕ) → suc n ≡ 2 ^ suc k → roundMustSay (after function k s seed lent outs n) out ≡ 6 ∷ []
+    unfolding roundMustSay roundJudged ready
     spent-card-says-6 n out e =
         rw (holds n (omega arith), head-read function k s seed lent given (suc n) (omega arith) (omega arith), eq-eqb (suc n) (2 ^ suc k) e) refl
 
@@ -119,24 +119,24 @@ module _ (function k s : ℕ) (seed lent : List ℕ) (given : Given function k s
 
 -- ---- refusal 8
 
-never-8 : (ps : List ℕ) (hashes : ℕ) → ranSays ps hashes ≡ 8 ∷ [] → ⊥
+never-8 : (ps : List ℕ) (hashes : ℕ) → tickOrQuiet ps hashes ≡ 8 ∷ [] → ⊥
 never-8 [] hashes e = let z : _≡_ {A = ℕ} 0 8 = cc in omega arith
 never-8 (p ∷ ps) hashes e = let z : _≡_ {A = ℕ} 0 8 = cc in omega arith
 
 -- it never comes from a record that passes inspection
-pub no-card-says-8 : (card out : List ℕ) (head : Head) → inspectOf card ≡ Card head → roundSaid card out ≡ 8 ∷ [] → ⊥
-unfolding roundSaid roundJudged ready
+pub no-card-says-8 : (card out : List ℕ) (head : Head) → inspectOf card ≡ Card head → roundMustSay card out ≡ 8 ∷ [] → ⊥
+unfolding roundMustSay roundJudged ready
 no-card-says-8 card out head e says =
     let ok : Sound card head = sound card head e in
-    go (eqb (head .round .0) (2 ^ suc (head .k))) (ltb (length out) (widthOf head)) (ltb (slots (head .schedule) (head .k)) (held (later head)))
-    (λ n. le-ltb (slots (head .schedule) (head .k)) (held (later head)) (held-later head (ok .numbered) (less ok (eqb-false (head .round .0) (2 ^ suc (head .k)) n))))
+    go (eqb (head .round .0) (2 ^ suc (head .k))) (ltb (length out) (widthOf head)) (ltb (slots (head .schedule) (head .k)) (heldCount (later head)))
+    (λ n. le-ltb (slots (head .schedule) (head .k)) (heldCount (later head)) (held-later head (ok .numbered) (less ok (eqb-false (head .round .0) (2 ^ suc (head .k)) n))))
     (rw e at says)
   where
     less : Sound card head → (head .round .0 ≡ 2 ^ suc (head .k) → ⊥) → head .round .0 < 2 ^ suc (head .k)
     less ok n = omega (arith, ok .upto)
 
     go : (spent short full : Bool) → (spent ≡ false → full ≡ false)
-        → roundSaidBy (cond spent (Refused Spent) (cond short (Refused WrongLength) (cond full (Refused NoRoom) (Card head)))) ≡ 8 ∷ [] → ⊥
+        → judgedRoundSays (cond spent (Refused Spent) (cond short (Refused WrongLength) (cond full (Refused NoRoom) (Card head)))) ≡ 8 ∷ [] → ⊥
     go true short full f q = let z : _≡_ {A = ℕ} 6 8 = cc in omega arith
     go false true full f q = let z : _≡_ {A = ℕ} 4 8 = cc in omega arith
     go false false true f q = absurd (true≢false (f refl))

@@ -19,7 +19,7 @@ use Rattle.pebbling.specs.Demands.{never-more-than-slots}
 use Rattle.pebbling.specs.Recursion.{schedule, positions, chain}
 use Rattle.card.specs.declared.Head.{Head}
 use Rattle.card.specs.declared.Inspected.the-variants.{Card}
-use Rattle.card.specs.Record.{chainOf, widthOf, held, heldBytes, slotBytes, size, headBytes, filled, cardBytes, headOf, heldValues, freeSlots, allZero, laidOut}
+use Rattle.card.specs.Record.{chainOf, widthOf, heldCount, heldSize, slotsSize, size, headBytes, filled, cardBytes, headOf, heldValues, freeSlots, allZero, laidOut}
 use Rattle.card.specs.Refused.{numbers, inspectSlots, inspectOf}
 use Rattle.card.specs.Sound.{Numbered}
 
@@ -37,13 +37,13 @@ all-zeros (suc n) = all-zeros n
 -- ---- values that fill a head's slots from slot 0 on
 
 pub record Holding (head : Head) (vs : List (List ℕ)) : Type 0 where
-  pub sized : length (joined vs) ≡ heldBytes head
-  pub cut : (rest : List ℕ) → values (widthOf head) (held head) (joined vs ++ rest) ≡ vs
+  pub sized : length (joined vs) ≡ heldSize head
+  pub cut : (rest : List ℕ) → values (widthOf head) (heldCount head) (joined vs ++ rest) ≡ vs
 
 -- the chain at the positions held is such values
 pub chain-holding : (head : Head) (seed : List ℕ) → length seed ≡ widthOf head
     → Holding head (map (chain (step (chainOf head)) seed) (positions (schedule (head .schedule)) (head .k) (head .round .0) 0))
-unfolding heldBytes held
+unfolding heldSize heldCount
 chain-holding head seed e =
     let g = chain (step (chainOf head)) seed in
     let ps = positions (schedule (head .schedule)) (head .k) (head .round .0) 0 in
@@ -59,15 +59,15 @@ unfolding size
 sixteen head n h = omega arith
 
 module _ (head : Head) (vs : List (List ℕ)) (nr : Numbered head) (from : 0 < head .round .0) (upto : head .round .0 ≤ 2 ^ suc (head .k)) (hs : Holding head vs) where
-  held-fits : heldBytes head ≤ slotBytes head
-  unfolding heldBytes slotBytes held
+  held-fits : heldSize head ≤ slotsSize head
+  unfolding heldSize slotsSize heldCount
   held-fits = mul-le-mul-left (widthOf head) (never-more-than-slots (head .schedule) (nr .schedule) (head .k) (head .round .0) upto)
 
-  filled-length : length (filled head vs) ≡ slotBytes head
+  filled-length : length (filled head vs) ≡ slotsSize head
   unfolding filled
   filled-length =
       let z : ℕ = 0 in
-      let n : ℕ = slotBytes head - length (joined vs) in
+      let n : ℕ = slotsSize head - length (joined vs) in
       length-append (joined vs) (replicate n z) ∙ omega (arith, length-replicate n z, held-fits, hs .sized)
 
   pub card-length : length (cardBytes head vs) ≡ size head
@@ -90,13 +90,13 @@ module _ (head : Head) (vs : List (List ℕ)) (nr : Numbered head) (from : 0 < h
     unfolding freeSlots filled size
     free-back =
         let z : ℕ = 0 in
-        let n : ℕ = slotBytes head - heldBytes head in
+        let n : ℕ = slotsSize head - heldSize head in
         let l : length (headBytes head) ≡ 16 = unfold headBytes in refl in
-        let m : 16 + slotBytes head - (16 + heldBytes head) ≡ n = omega arith in
-        let a : drop (16 + heldBytes head) (headBytes head ++ ((joined vs ++ replicate (slotBytes head - length (joined vs)) z) ++ rest)) ≡ replicate n z ++ rest =
-        rw (append-assoc (joined vs) (replicate (slotBytes head - length (joined vs)) z) rest, hs .sized, ← l)
-        (drop-append-add (headBytes head) (joined vs ++ (replicate n z ++ rest)) (heldBytes head)
-        ∙ drop-at (joined vs) (replicate n z ++ rest) (heldBytes head) (hs .sized)) in
+        let m : 16 + slotsSize head - (16 + heldSize head) ≡ n = omega arith in
+        let a : drop (16 + heldSize head) (headBytes head ++ ((joined vs ++ replicate (slotsSize head - length (joined vs)) z) ++ rest)) ≡ replicate n z ++ rest =
+        rw (append-assoc (joined vs) (replicate (slotsSize head - length (joined vs)) z) rest, hs .sized, ← l)
+        (drop-append-add (headBytes head) (joined vs ++ (replicate n z ++ rest)) (heldSize head)
+        ∙ drop-at (joined vs) (replicate n z ++ rest) (heldSize head) (hs .sized)) in
         rw (a, m, take-at (replicate n z) rest n (length-replicate n z)) (all-zeros n)
 
   numbered : numbers head ≡ Card head
@@ -135,5 +135,5 @@ module _ (head : Head) (vs : List (List ℕ)) (nr : Numbered head) (from : 0 < h
     values-back =
         let z : ℕ = 0 in
         let l : length (headBytes head) ≡ 16 = unfold headBytes in refl in
-        rw (apart, drop-at (headBytes head) (filled head vs ++ drop (size head) old) 16 l, append-assoc (joined vs) (replicate (slotBytes head - length (joined vs)) z) (drop (size head) old))
-        (hs .cut (replicate (slotBytes head - length (joined vs)) z ++ drop (size head) old))
+        rw (apart, drop-at (headBytes head) (filled head vs ++ drop (size head) old) 16 l, append-assoc (joined vs) (replicate (slotsSize head - length (joined vs)) z) (drop (size head) old))
+        (hs .cut (replicate (slotsSize head - length (joined vs)) z ++ drop (size head) old))

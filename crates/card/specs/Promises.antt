@@ -1,5 +1,5 @@
 -- What start, round and anchor promise, and that each promise leaves no choice. The right sides are definitions over what was lent;
--- a refusal is a case of them: its number alone is said, and no byte changes. Assumes nothing.
+-- a refusal is a case of them: its number alone is answerSays, and no byte changes. Assumes nothing.
 use mathlib.Core.Path.{_≡_, refl, sym, ap, _∙_}
 use mathlib.Core.List.{List, [], _∷_}
 use Prim.Native.Nat.{ℕ, _^_}
@@ -22,45 +22,45 @@ use Rattle.card.specs.Refused.{later, startJudged, roundJudged, anchorJu
 
 -- ---- what the counter says: a refusal's number alone, or 0 and what there is to say
 
-abbrev pub said : Answer → List ℕ
-said Done = 0 ∷ []
-said (Refused refusal) = saidOf refusal
+abbrev pub answerSays : Answer → List ℕ
+answerSays Done = 0 ∷ []
+answerSays (Refused refusal) = saidOf refusal
 
 -- a quiet round: 0, 0 and its hashes; a tick: 0, 1, its position and its hashes
-abbrev pub roundSays : RoundAnswer → List ℕ
-roundSays (Quiet hashes) = 0 ∷ 0 ∷ hashes ∷ []
-roundSays (Tick position hashes) = 0 ∷ 1 ∷ position ∷ hashes ∷ []
-roundSays (NoRound refusal) = saidOf refusal
+abbrev pub roundAnswerSays : RoundAnswer → List ℕ
+roundAnswerSays (Quiet hashes) = 0 ∷ 0 ∷ hashes ∷ []
+roundAnswerSays (Tick position hashes) = 0 ∷ 1 ∷ position ∷ hashes ∷ []
+roundAnswerSays (NoRound refusal) = saidOf refusal
 
 -- ---- start: the record for round 1, slot 0 the seed
 
 abbrev pub first : ℕ → ℕ → ℕ → Head
 first function k schedule = record { function = function; schedule = schedule; k = k; round = record { 0 = 1 } }
 
-abbrev pub startSaidBy : Inspected → List ℕ
-startSaidBy (TurnedDown refusal) = saidOf refusal
-startSaidBy (Card head) = 0 ∷ []
+abbrev pub judgedStartSays : Inspected → List ℕ
+judgedStartSays (TurnedDown refusal) = saidOf refusal
+judgedStartSays (Card head) = 0 ∷ []
 
-abbrev pub startCardBy : List ℕ → List ℕ → Inspected → List ℕ
-startCardBy seed card (TurnedDown refusal) = card
-startCardBy seed card (Card head) = over (cardBytes head (seed ∷ [])) card
+abbrev pub judgedStartCard : List ℕ → List ℕ → Inspected → List ℕ
+judgedStartCard seed card (TurnedDown refusal) = card
+judgedStartCard seed card (Card head) = over (cardBytes head (seed ∷ [])) card
 
-unfoldable pub startSaid : ℕ → ℕ → ℕ → List ℕ → List ℕ → List ℕ
-startSaid function k schedule seed card = startSaidBy (startJudged (first function k schedule) seed card)
+unfoldable pub startMustSay : ℕ → ℕ → ℕ → List ℕ → List ℕ → List ℕ
+startMustSay function k schedule seed card = judgedStartSays (startJudged (first function k schedule) seed card)
 
 unfoldable pub startCard : ℕ → ℕ → ℕ → List ℕ → List ℕ → List ℕ
-startCard function k schedule seed card = startCardBy seed card (startJudged (first function k schedule) seed card)
+startCard function k schedule seed card = judgedStartCard seed card (startJudged (first function k schedule) seed card)
 
 pub record Started (function k schedule : ℕ) (seed card : List ℕ) (answer : Answer) (card′ : List ℕ) : Type 0 where
-  pub says : said answer ≡ startSaid function k schedule seed card
+  pub says : answerSays answer ≡ startMustSay function k schedule seed card
   pub leaves : card′ ≡ startCard function k schedule seed card
 
 -- ---- round: the recursion's round on the values that are held, whatever they are
 
 -- the positions put out, none or one, and the hashes
-abbrev pub ranSays : List ℕ → ℕ → List ℕ
-ranSays [] hashes = 0 ∷ 0 ∷ hashes ∷ []
-ranSays (position ∷ none) hashes = 0 ∷ 1 ∷ position ∷ hashes ∷ []
+abbrev pub tickOrQuiet : List ℕ → ℕ → List ℕ
+tickOrQuiet [] hashes = 0 ∷ 0 ∷ hashes ∷ []
+tickOrQuiet (position ∷ none) hashes = 0 ∷ 1 ∷ position ∷ hashes ∷ []
 
 module _ (head : Head) where
   abbrev t : ℕ → ℕ → ℕ
@@ -69,68 +69,68 @@ module _ (head : Head) where
   abbrev r : ℕ
   r = head .round .0
 
-  abbrev pub ranSaid : List ℕ
-  ranSaid = ranSays (putOut (head .k) r 0) (work t (head .k) r)
+  abbrev pub passedRoundSays : List ℕ
+  passedRoundSays = tickOrQuiet (putOut (head .k) r 0) (work t (head .k) r)
 
   -- the values after the round, from slot 0 on
-  abbrev pub ranCard : List ℕ → List ℕ
-  ranCard card = over (cardBytes (later head) (round t (step (chainOf head)) (head .k) r (heldValues head card))) card
+  abbrev pub passedRoundCard : List ℕ → List ℕ
+  passedRoundCard card = over (cardBytes (later head) (round t (step (chainOf head)) (head .k) r (heldValues head card))) card
 
   -- the value put out, at the front of the out buffer; a quiet round puts out none and writes nothing
-  abbrev pub ranOut : List ℕ → List ℕ → List ℕ
-  ranOut card out = over (joined (tick t (head .k) r (heldValues head card))) out
+  abbrev pub passedRoundOut : List ℕ → List ℕ → List ℕ
+  passedRoundOut card out = over (joined (tick t (head .k) r (heldValues head card))) out
 
-abbrev pub roundSaidBy : Inspected → List ℕ
-roundSaidBy (TurnedDown refusal) = saidOf refusal
-roundSaidBy (Card head) = ranSaid head
+abbrev pub judgedRoundSays : Inspected → List ℕ
+judgedRoundSays (TurnedDown refusal) = saidOf refusal
+judgedRoundSays (Card head) = passedRoundSays head
 
-abbrev pub roundCardBy : List ℕ → Inspected → List ℕ
-roundCardBy card (TurnedDown refusal) = card
-roundCardBy card (Card head) = ranCard head card
+abbrev pub judgedRoundCard : List ℕ → Inspected → List ℕ
+judgedRoundCard card (TurnedDown refusal) = card
+judgedRoundCard card (Card head) = passedRoundCard head card
 
-abbrev pub roundOutBy : List ℕ → List ℕ → Inspected → List ℕ
-roundOutBy card out (TurnedDown refusal) = out
-roundOutBy card out (Card head) = ranOut head card out
+abbrev pub judgedRoundOut : List ℕ → List ℕ → Inspected → List ℕ
+judgedRoundOut card out (TurnedDown refusal) = out
+judgedRoundOut card out (Card head) = passedRoundOut head card out
 
-unfoldable pub roundSaid : List ℕ → List ℕ → List ℕ
-roundSaid card out = roundSaidBy (roundJudged card out)
+unfoldable pub roundMustSay : List ℕ → List ℕ → List ℕ
+roundMustSay card out = judgedRoundSays (roundJudged card out)
 
 unfoldable pub roundCard : List ℕ → List ℕ → List ℕ
-roundCard card out = roundCardBy card (roundJudged card out)
+roundCard card out = judgedRoundCard card (roundJudged card out)
 
 unfoldable pub roundOut : List ℕ → List ℕ → List ℕ
-roundOut card out = roundOutBy card out (roundJudged card out)
+roundOut card out = judgedRoundOut card out (roundJudged card out)
 
 pub record Rounded (card out : List ℕ) (answer : RoundAnswer) (card′ out′ : List ℕ) : Type 0 where
-  pub says : roundSays answer ≡ roundSaid card out
+  pub says : roundAnswerSays answer ≡ roundMustSay card out
   pub leaves : card′ ≡ roundCard card out
   pub writes : out′ ≡ roundOut card out
 
 -- ---- anchor: the chain's element 2^k, at the front of the out buffer
 
-unfoldable pub anchorSaid : Chain → ℕ → List ℕ → List ℕ → List ℕ
-anchorSaid c k seed out = said (anchorJudged c k seed out)
+unfoldable pub anchorMustSay : Chain → ℕ → List ℕ → List ℕ → List ℕ
+anchorMustSay c k seed out = answerSays (anchorJudged c k seed out)
 
-abbrev pub anchorOutBy : Chain → ℕ → List ℕ → List ℕ → Answer → List ℕ
-anchorOutBy c k seed out Done = over (chain (step c) seed (2 ^ k)) out
-anchorOutBy c k seed out (Refused refusal) = out
+abbrev pub judgedAnchorOut : Chain → ℕ → List ℕ → List ℕ → Answer → List ℕ
+judgedAnchorOut c k seed out Done = over (chain (step c) seed (2 ^ k)) out
+judgedAnchorOut c k seed out (Refused refusal) = out
 
 unfoldable pub anchorOut : Chain → ℕ → List ℕ → List ℕ → List ℕ
-anchorOut c k seed out = anchorOutBy c k seed out (anchorJudged c k seed out)
+anchorOut c k seed out = judgedAnchorOut c k seed out (anchorJudged c k seed out)
 
 pub record Anchored (c : Chain) (k : ℕ) (seed out : List ℕ) (answer : Answer) (out′ : List ℕ) : Type 0 where
-  pub says : said answer ≡ anchorSaid c k seed out
+  pub says : answerSays answer ≡ anchorMustSay c k seed out
   pub writes : out′ ≡ anchorOut c k seed out
 
--- ---- what is said tells the answer, so each promise is kept by one answer and one content of each lent buffer
+-- ---- what is answerSays tells the answer, so each promise is kept by one answer and one content of each lent buffer
 
-pub answer-told : (a b : Answer) → said a ≡ said b → a ≡ b
+pub answer-told : (a b : Answer) → answerSays a ≡ answerSays b → a ≡ b
 answer-told Done Done e = refl
 answer-told Done (Refused y) e = absurd (not-refused y [] (sym e))
 answer-told (Refused x) Done e = absurd (not-refused x [] e)
 answer-told (Refused x) (Refused y) e = ap Refused (said-tells x y e)
 
-pub round-answer-told : (a b : RoundAnswer) → roundSays a ≡ roundSays b → a ≡ b
+pub round-answer-told : (a b : RoundAnswer) → roundAnswerSays a ≡ roundAnswerSays b → a ≡ b
 round-answer-told (Quiet h) (Quiet i) e = cc
 round-answer-told (Quiet h) (Tick p i) e = let z : _≡_ {A = ℕ} 0 1 = cc in absurd (omega arith)
 round-answer-told (Quiet h) (NoRound y) e = let z : _≡_ {A = ℕ} 0 1 = cc in absurd (omega arith)

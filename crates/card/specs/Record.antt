@@ -1,4 +1,4 @@
--- The card record: document 01, "Records". `cardBytes` is what a record holds, and `headOf`, `heldValues` and `freeSlots` are what is
+-- The card record: docs/RULES.md, "Records". `cardBytes` is what a record holds, and `headOf`, `heldValues` and `freeSlots` are what is
 -- read from one. Everything goes by the width of the chain's values. Assumes nothing.
 use mathlib.Core.Bool.{Bool, true, _&&_}
 use mathlib.Core.List.{List, [], _∷_, _++_}
@@ -21,18 +21,18 @@ abbrev pub widthOf : Head → ℕ
 widthOf head = width (chainOf head)
 
 -- the values held before the head's round: a matter of k, schedule and r, never of what the slots hold
-unfoldable pub held : Head → ℕ
-held head = length (positions (schedule (head .schedule)) (head .k) (head .round .0) 0)
+unfoldable pub heldCount : Head → ℕ
+heldCount head = length (positions (schedule (head .schedule)) (head .k) (head .round .0) 0)
 
 -- the bytes of the values held, of all slots, and of the record, whose slots begin at byte 16
-unfoldable pub heldBytes : Head → ℕ
-heldBytes head = widthOf head * held head
+unfoldable pub heldSize : Head → ℕ
+heldSize head = widthOf head * heldCount head
 
-unfoldable pub slotBytes : Head → ℕ
-slotBytes head = widthOf head * slots (head .schedule) (head .k)
+unfoldable pub slotsSize : Head → ℕ
+slotsSize head = widthOf head * slots (head .schedule) (head .k)
 
 unfoldable pub size : Head → ℕ
-size head = 16 + slotBytes head
+size head = 16 + slotsSize head
 
 -- ---- what a record holds
 
@@ -47,7 +47,7 @@ headBytes head =
 
 -- values from slot 0 on; the remaining slots are zero
 unfoldable pub filled : Head → List (List ℕ) → List ℕ
-filled head vs = joined vs ++ replicate (slotBytes head - length (joined vs)) 0
+filled head vs = joined vs ++ replicate (slotsSize head - length (joined vs)) 0
 
 unfoldable pub cardBytes : Head → List (List ℕ) → List ℕ
 cardBytes head vs = headBytes head ++ filled head vs
@@ -65,10 +65,10 @@ headOf card =
 
 -- the values held, whatever they are, and the bytes of the slots behind them
 unfoldable pub heldValues : Head → List ℕ → List (List ℕ)
-heldValues head card = values (widthOf head) (held head) (drop 16 card)
+heldValues head card = values (widthOf head) (heldCount head) (drop 16 card)
 
 unfoldable pub freeSlots : Head → List ℕ → List ℕ
-freeSlots head card = take (size head - (16 + heldBytes head)) (drop (16 + heldBytes head) card)
+freeSlots head card = take (size head - (16 + heldSize head)) (drop (16 + heldSize head) card)
 
 unfoldable pub allZero : List ℕ → Bool
 allZero [] = true

@@ -1,4 +1,4 @@
--- What each call refuses, in the order of document 01, "Numbers said at the counter". A refusal comes from the first test that holds; what
+-- What each call refuses, in the order of docs/RULES.md, "Numbers said at the counter". A refusal comes from the first test that holds; what
 -- passes them all is a card's head. Assumes nothing.
 use mathlib.Core.Bool.{cond, _||_, not}
 use mathlib.Core.List.{List}
@@ -14,7 +14,7 @@ use Rattle.card.specs.declared.Answer.{Answer}
 use Rattle.card.specs.declared.Answer.the-variants.{Done, Refused as NotDone}
 use Rattle.card.specs.declared.Inspected.{Inspected}
 use Rattle.card.specs.declared.Inspected.the-variants.{Refused, Card}
-use Rattle.card.specs.Record.{widthOf, held, size, headOf, freeSlots, allZero, laidOut}
+use Rattle.card.specs.Record.{widthOf, heldCount, size, headOf, freeSlots, allZero, laidOut}
 
 -- what has passed goes on to the next tests
 abbrev pub passing : Inspected → (Head → Inspected) → Inspected
@@ -74,7 +74,7 @@ unfoldable pub ready : List ℕ → Head → Inspected
 ready out head =
     cond (eqb (head .round .0) (2 ^ suc (head .k))) (Refused Spent)
     (cond (ltb (length out) (widthOf head)) (Refused WrongLength)
-    (cond (ltb (slots (head .schedule) (head .k)) (held (later head))) (Refused NoRoom)
+    (cond (ltb (slots (head .schedule) (head .k)) (heldCount (later head))) (Refused NoRoom)
     (Card head)))
 
 unfoldable pub roundJudged : List ℕ → List ℕ → Inspected

@@ -15,7 +15,7 @@ use Rattle.pebbling.specs.Demands.{round-moves-the-chain, card-holds-the-chain}
 use Rattle.pebbling.specs.Recursion.{schedule, positions, tick, round, before, chain}
 use Rattle.card.specs.declared.Head.{Head}
 use Rattle.card.specs.declared.Inspected.the-variants.{Card}
-use Rattle.card.specs.Record.{slotBytes, size, cardBytes, heldValues}
+use Rattle.card.specs.Record.{slotsSize, size, cardBytes, heldValues}
 use Rattle.card.specs.Refused.{numbers, roomFor, startJudged, inspectOf, roundJudged}
 use Rattle.card.specs.Promises.{startCard, roundCard, roundOut}
 use Rattle.card.specs.Sound.{Numbered, ready-passes}
@@ -41,8 +41,8 @@ after function k s seed lent outs zero = startCard function k s seed lent
 after function k s seed lent outs (suc n) = roundCard (after function k s seed lent outs n) (outs n)
 
 -- the record before round r as it is to be: the chain's elements at the positions held, from slot 0 on, over what was lent
-abbrev pub heldAt : (function k s : ℕ) (seed lent : List ℕ) → ℕ → List ℕ
-heldAt function k s seed lent r =
+abbrev pub recordAt : (function k s : ℕ) (seed lent : List ℕ) → ℕ → List ℕ
+recordAt function k s seed lent r =
     over (cardBytes (headAt function k s r) (map (chain (step (record { function = function })) seed) (positions (schedule s) k r 0))) lent
 
 -- ---- laws
@@ -58,7 +58,7 @@ module _ (function k s : ℕ) (seed lent : List ℕ) (given : Given function k s
   vs r = map (chain (step c) seed) (positions (schedule s) k r 0)
 
   abbrev kept : ℕ → List ℕ
-  kept = heldAt function k s seed lent
+  kept = recordAt function k s seed lent
 
   numbered : (r : ℕ) → Numbered (head r)
   numbered r = record { known = given .known; small = given .small; schedule = given .scheduled }
@@ -67,7 +67,7 @@ module _ (function k s : ℕ) (seed lent : List ℕ) (given : Given function k s
   holding r = chain-holding (head r) seed (given .seeded)
 
   long : (r : ℕ) → size (head r) ≤ length lent
-  unfolding size slotBytes
+  unfolding size slotsSize
   long r = given .long
 
   -- start refuses nothing
@@ -83,22 +83,22 @@ module _ (function k s : ℕ) (seed lent : List ℕ) (given : Given function k s
       ) refl
 
   -- what a round reads from such a record: the head and the values
-  pub head-read : (r : ℕ) → 0 < r → r ≤ 2 ^ suc k → inspectOf (heldAt function k s seed lent r) ≡ Card (headAt function k s r)
+  pub head-read : (r : ℕ) → 0 < r → r ≤ 2 ^ suc k → inspectOf (recordAt function k s seed lent r) ≡ Card (headAt function k s r)
   head-read r from upto = inspected (head r) (vs r) (numbered r) from upto (holding r) lent (long r)
 
   pub values-read : (r : ℕ) → 0 < r → r ≤ 2 ^ suc k
-      → heldValues (headAt function k s r) (heldAt function k s seed lent r) ≡ map (chain (step c) seed) (positions (schedule s) k r 0)
+      → heldValues (headAt function k s r) (recordAt function k s seed lent r) ≡ map (chain (step c) seed) (positions (schedule s) k r 0)
   values-read r from upto = values-back (head r) (vs r) (numbered r) from upto (holding r) lent (long r)
 
   -- it refuses nothing
   pub round-passes : (r : ℕ) (out : List ℕ) → 0 < r → r < 2 ^ suc k → width c ≤ length out
-      → roundJudged (heldAt function k s seed lent r) out ≡ Card (headAt function k s r)
+      → roundJudged (recordAt function k s seed lent r) out ≡ Card (headAt function k s r)
   unfolding roundJudged
   round-passes r out from less w = rw (head-read r from (omega arith)) (ready-passes (head r) out (numbered r) less w)
 
   -- and leaves the record for the next round
   round-leaves : (r : ℕ) (out : List ℕ) → 0 < r → r < 2 ^ suc k → width c ≤ length out → roundCard (kept r) out ≡ kept (suc r)
-  unfolding roundCard size slotBytes
+  unfolding roundCard size slotsSize
   round-leaves r out from less w =
       rw (round-passes r out from less w, values-read r from (omega arith), round-moves-the-chain s (given .scheduled) k (step c) seed r from less)
       (over-over (cardBytes (head (suc r)) (vs (suc r))) (cardBytes (head r) (vs r)) lent
@@ -106,7 +106,7 @@ module _ (function k s : ℕ) (seed lent : List ℕ) (given : Given function k s
       ∙ sym (card-length (head r) (vs r) (numbered r) from (omega arith) (holding r))))
 
   module _ (outs : ℕ → List ℕ) (wide : (n : ℕ) → width c ≤ length (outs n)) where
-    pub after-holds : (n : ℕ) → suc n ≤ 2 ^ suc k → after function k s seed lent outs n ≡ heldAt function k s seed lent (suc n)
+    pub after-holds : (n : ℕ) → suc n ≤ 2 ^ suc k → after function k s seed lent outs n ≡ recordAt function k s seed lent (suc n)
     unfolding after before startCard
     after-holds zero h =
         rw start-passes

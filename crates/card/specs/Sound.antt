@@ -15,7 +15,7 @@ use Rattle.refusals.specs.declared.Refusal.the-variants.{UnknownFunction, TooMa
 use Rattle.card.specs.declared.Head.{Head}
 use Rattle.card.specs.declared.Inspected.{Inspected}
 use Rattle.card.specs.declared.Inspected.the-variants.{Refused, Card}
-use Rattle.card.specs.Record.{widthOf, held, size, headOf, freeSlots, allZero, laidOut}
+use Rattle.card.specs.Record.{widthOf, heldCount, size, headOf, freeSlots, allZero, laidOut}
 use Rattle.card.specs.Refused.{passing, numbers, roomFor, startJudged, later, inspectSlots, inspectOf, ready, roundJudged}
 
 -- a test that was passed
@@ -115,8 +115,8 @@ sound card h e =
 -- ---- a round that is to be run
 
 -- no more is held after a round than there are slots, so refusal 8 never comes
-pub held-later : (head : Head) → Numbered head → head .round .0 < 2 ^ suc (head .k) → held (later head) ≤ slots (head .schedule) (head .k)
-unfolding held
+pub held-later : (head : Head) → Numbered head → head .round .0 < 2 ^ suc (head .k) → heldCount (later head) ≤ slots (head .schedule) (head .k)
+unfolding heldCount
 held-later head n before = never-more-than-slots (head .schedule) (n .schedule) (head .k) (suc (head .round .0)) before
 
 pub ready-passes : (head : Head) (out : List ℕ) → Numbered head → head .round .0 < 2 ^ suc (head .k) → widthOf head ≤ length out → ready out head ≡ Card head
@@ -125,7 +125,7 @@ ready-passes head out n before wide =
     rw (
       ne-eqb (head .round .0) (2 ^ suc (head .k)) (λ e. omega arith),
       le-ltb (length out) (widthOf head) wide,
-      le-ltb (slots (head .schedule) (head .k)) (held (later head)) (held-later head n before),
+      le-ltb (slots (head .schedule) (head .k)) (heldCount (later head)) (held-later head n before),
     ) refl
 
 -- and a round that passes is one of the card's rounds
@@ -134,7 +134,7 @@ unfolding ready
 ready-runs out g h e =
     let a = passed-by (eqb (g .round .0) (2 ^ suc (g .k))) Spent _ h e in
     let b = passed-by (ltb (length out) (widthOf g)) WrongLength _ h (a .1) in
-    let d : Card g ≡ Card h = passed-by (ltb (slots (g .schedule) (g .k)) (held (later g))) NoRoom (Card g) h (b .1) .1 in
+    let d : Card g ≡ Card h = passed-by (ltb (slots (g .schedule) (g .k)) (heldCount (later g))) NoRoom (Card g) h (b .1) .1 in
     (cc, eqb-false (g .round .0) (2 ^ suc (g .k)) (a .0))
 
 pub runs : (card out : List ℕ) (h : Head) → roundJudged card out ≡ Card h → Sound card h × (h .round .0 < 2 ^ suc (h .k))

@@ -6,12 +6,12 @@ use lib.ListN.{length}
 use Rattle.lists.specs.Values.{values, joined}
 use Rattle.lists.specs.Writing.{over}
 use Rattle.pebbling.specs.Recursion.{putOut, tick, schedule as hashesOf}
-use Rattle.pebbling.specs.SideBySide.{sideHeld}
+use Rattle.pebbling.specs.SideBySide.{sideHeldCount}
 use Rattle.card.specs.declared.Head.{Head}
 use Rattle.card.specs.declared.RoundAnswer.{RoundAnswer}
-use Rattle.card.specs.Record.{widthOf, held}
+use Rattle.card.specs.Record.{widthOf, heldCount}
 use Rattle.card.specs.Refused.{ready}
-use Rattle.card.specs.Promises.{roundSays, ranSays, roundSaidBy, roundCardBy, roundOutBy}
+use Rattle.card.specs.Promises.{roundAnswerSays, tickOrQuiet, judgedRoundSays, judgedRoundCard, judgedRoundOut}
 use Rattle.card.specs.Sound.{Sound}
 
 -- the children of P_k in their round n, with `more` values counted before; there are few enough of all of them
@@ -20,7 +20,7 @@ pub record Aside (s k n more : ℕ) : Type 0 where
   pub small : k ≤ 20
   pub from : 0 < n
   pub before : n < 2 ^ k
-  pub few : more + sideHeld (hashesOf s) k n ≤ 41
+  pub few : more + sideHeldCount (hashesOf s) k n ≤ 41
 
 -- a head whose numbers fit a byte each, and a record with room for it and its slots
 pub record Puttable (head : Head) (slots card : List ℕ) : Type 0 where
@@ -37,9 +37,9 @@ pub record Running (head : Head) (card out : List ℕ) : Type 0 where
 
 -- the rest of a round, once its record has passed inspection
 pub record Turned (head : Head) (card out : List ℕ) (answer : RoundAnswer) (card′ out′ : List ℕ) : Type 0 where
-  pub says : roundSays answer ≡ roundSaidBy (ready out head)
-  pub leaves : card′ ≡ roundCardBy card (ready out head)
-  pub writes : out′ ≡ roundOutBy card out (ready out head)
+  pub says : roundAnswerSays answer ≡ judgedRoundSays (ready out head)
+  pub leaves : card′ ≡ judgedRoundCard card (ready out head)
+  pub writes : out′ ≡ judgedRoundOut card out (ready out head)
 
 -- what a round answers and puts out, by the slots before it
 pub record Payable (head : Head) (slots out : List ℕ) : Type 0 where
@@ -50,5 +50,5 @@ pub record Payable (head : Head) (slots out : List ℕ) : Type 0 where
   pub wide : widthOf head ≤ length out
 
 pub record Paid (head : Head) (hashes : ℕ) (slots out : List ℕ) (answer : RoundAnswer) (out′ : List ℕ) : Type 0 where
-  pub says : roundSays answer ≡ ranSays (putOut (head .k) (head .round .0) 0) hashes
-  pub writes : out′ ≡ over (joined (tick (hashesOf (head .schedule)) (head .k) (head .round .0) (values (widthOf head) (held head) slots))) out
+  pub says : roundAnswerSays answer ≡ tickOrQuiet (putOut (head .k) (head .round .0) 0) hashes
+  pub writes : out′ ≡ over (joined (tick (hashesOf (head .schedule)) (head .k) (head .round .0) (values (widthOf head) (heldCount head) slots))) out

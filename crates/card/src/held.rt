@@ -3,41 +3,41 @@ ghost use mathlib.Core.Path.{_≡_};
 ghost use Prim.Native.Nat.{suc, _+_, _^_, _≤_, _<_};
 ghost use lib.ListN.{length};
 ghost use Rattle.pebbling.specs.Recursion.{schedule as hashesOf, positions};
-ghost use Rattle.pebbling.specs.SideBySide.{sideHeld};
+ghost use Rattle.pebbling.specs.SideBySide.{sideHeldCount};
 ghost use Rattle.card.specs.Steps.{Aside};
 use pebbling::RoundNumber;
 use pebbling::hashes::hashes_done;
-use pebbling::hashes::held_after;
+use pebbling::hashes::held_count_after;
 use pebbling::powers::power;
 
 // The children of P_k, side by side in their round n, and `more` besides. The last of them is P_(k-1). Past its round 2^(k-1) only its own
 // children are left; up to then it holds its y's, and before then the children below it run too.
-fn held_aside(schedule: u32, k: u32, n: u32, more: u32) -> u32
+fn held_count_aside(schedule: u32, k: u32, n: u32, more: u32) -> u32
     requires { ⌜ Aside schedule k n more ⌝ }
-    ensures { λ m. ⌜ m ≡ more + sideHeld (hashesOf schedule) k n ⌝ }
+    ensures { λ m. ⌜ m ≡ more + sideHeldCount (hashesOf schedule) k n ⌝ }
 {
     let j = k - 1;
     let half = power(j);
     if half < n {
-        return held_aside(schedule, j, n - half, more);
+        return held_count_aside(schedule, j, n - half, more);
     }
-    let own = held_after(j, hashes_done(schedule, j, RoundNumber(n)));
+    let own = held_count_after(j, hashes_done(schedule, j, RoundNumber(n)));
     let all = more + own;
     if n == half {
         return all;
     }
-    held_aside(schedule, j, n, all)
+    held_count_aside(schedule, j, n, all)
 }
 
 // The values that P_k holds before its round, its children with it.
-pub fn held_values(schedule: u32, k: u32, round: RoundNumber) -> u32
+pub fn held_count(schedule: u32, k: u32, round: RoundNumber) -> u32
     requires { ⌜ (schedule ≤ 3) × (k ≤ 20) × (0 < round .0) × (round .0 < 2 ^ suc k) ⌝ }
     ensures { λ n. ⌜ (n ≡ length (positions (hashesOf schedule) k (round .0) 0)) × (n ≤ 41) ⌝ }
 {
     let r = round.0;
     let whole = power(k);
     if whole < r {
-        return held_aside(schedule, k, r - whole, 0);
+        return held_count_aside(schedule, k, r - whole, 0);
     }
-    held_after(k, hashes_done(schedule, k, round))
+    held_count_after(k, hashes_done(schedule, k, round))
 }

@@ -1,16 +1,16 @@
-// How a card's record is read and written: document 01, "Records".
+// How a card's record is read and written: docs/RULES.md, "Records".
 ghost use mathlib.Core.Path.{_≡_};
 ghost use mathlib.Core.List.{_++_};
 ghost use Prim.Native.Nat.{suc, _+_, _^_, _≤_, _<_};
 ghost use lib.ListN.{length};
 ghost use Rattle.lists.specs.Writing.{over};
 ghost use Rattle.pebbling.specs.Recursion.{slots as slotsOf};
-ghost use Rattle.card.specs.Record.{headBytes, headOf, heldBytes, slotBytes, allZero, laidOut};
+ghost use Rattle.card.specs.Record.{headBytes, headOf, heldSize, slotsSize, allZero, laidOut};
 ghost use Rattle.card.specs.Refused.{numbers, inspectSlots, inspectOf};
 ghost use Rattle.card.specs.Steps.{Puttable};
 use super::Head;
 use super::Inspected;
-use super::held::held_values;
+use super::held::held_count;
 use oneway::Chain;
 use pebbling::RoundNumber;
 use records::wide;
@@ -81,9 +81,9 @@ fn slot_count(schedule: u32, k: u32) -> u32
 }
 
 // The bytes of all slots together.
-pub fn slot_bytes(head: Head) -> usize
+pub fn slots_size(head: Head) -> usize
     requires { ⌜ head .k ≤ 20 ⌝ }
-    ensures { λ n. ⌜ (n ≡ slotBytes head) × (n ≤ 608) ⌝ }
+    ensures { λ n. ⌜ (n ≡ slotsSize head) × (n ≤ 608) ⌝ }
 {
     let w = oneway::width(Chain {
         function: head.function,
@@ -93,16 +93,16 @@ pub fn slot_bytes(head: Head) -> usize
 }
 
 // The bytes of the values held before the head's round.
-fn held_bytes(head: Head) -> usize
+fn held_size(head: Head) -> usize
     requires { ⌜ (head .schedule ≤ 3) × (head .k ≤ 20) × (0 < head .round .0) × (head .round .0 ≤ 2 ^ suc (head .k)) ⌝ }
-    ensures { λ n. ⌜ (n ≡ heldBytes head) × (n ≤ slotBytes head) ⌝ }
+    ensures { λ n. ⌜ (n ≡ heldSize head) × (n ≤ slotsSize head) ⌝ }
 {
     let k = head.k;
     let round = head.round;
     if round.0 == pebbling::powers::power(k + 1) {
         return 0;
     }
-    let held = held_values(head.schedule, k, round);
+    let held = held_count(head.schedule, k, round);
     let w = oneway::width(Chain {
         function: head.function,
     });
@@ -130,7 +130,7 @@ fn inspect_slots(card: &[u8], head: Head) -> Inspected
     requires { ⌜ (head .schedule ≤ 3) × (head .k ≤ 20) ⌝ }
     ensures { λ r. ⌜ r ≡ inspectSlots (now (card .entry)) head ⌝ }
 {
-    let end = 16 + slot_bytes(head);
+    let end = 16 + slots_size(head);
     if card.len() < end {
         return Inspected::Refused(Refusal::WrongLength);
     }
@@ -142,7 +142,7 @@ fn inspect_slots(card: &[u8], head: Head) -> Inspected
     if pebbling::powers::power(head.k + 1) < r {
         return Inspected::Refused(Refusal::BadRecord);
     }
-    let from = 16 + held_bytes(head);
+    let from = 16 + held_size(head);
     if zeros(&card[from..end]) {
         return Inspected::Card(head);
     }

@@ -62,7 +62,7 @@ fn room_for(head: Head, seed: &[u8], card: &[u8]) -> Inspected
     if seed.len() != w {
         return Inspected::Refused(Refusal::WrongLength);
     }
-    let end = 16 + layout::slot_bytes(head);
+    let end = 16 + layout::slots_size(head);
     if card.len() < end {
         return Inspected::Refused(Refusal::WrongLength);
     }
@@ -85,7 +85,7 @@ fn lay(head: Head, seed: &[u8], card: &mut [u8])
     requires { ⌜ Startable (now seed) (now card) head ⌝ }
     ensures { λ _. ⌜ now (card .exit) ≡ over (cardBytes head (now (seed .entry) ∷ [])) (now (card .entry)) ⌝ }
 {
-    let n = layout::slot_bytes(head);
+    let n = layout::slots_size(head);
     let mut slots = [0u8; MOST];
     records::copy(seed, &mut slots);
     layout::put(head, &slots[..n], card);
@@ -130,9 +130,9 @@ fn later(head: Head) -> Head
 
 // What the round answers, and its tick: from round 2^k on the first slot is put out, and its position is the number of rounds left
 // after this one.
-fn pay(head: Head, hashes: u32, held: &[u8], out: &mut [u8]) -> RoundAnswer
-    requires { ⌜ Payable head (now held) (now out) ⌝ }
-    ensures { λ a. ⌜ Paid head hashes (now (held .entry)) (now (out .entry)) a (now (out .exit)) ⌝ }
+fn pay(head: Head, hashes: u32, slots: &[u8], out: &mut [u8]) -> RoundAnswer
+    requires { ⌜ Payable head (now slots) (now out) ⌝ }
+    ensures { λ a. ⌜ Paid head hashes (now (slots .entry)) (now (out .entry)) a (now (out .exit)) ⌝ }
 {
     let k = head.k;
     let round = head.round;
@@ -142,7 +142,7 @@ fn pay(head: Head, hashes: u32, held: &[u8], out: &mut [u8]) -> RoundAnswer
     let w = oneway::width(Chain {
         function: head.function,
     });
-    records::copy(&held[..w], out);
+    records::copy(&slots[..w], out);
     let left = pebbling::rounds_left(k, round);
     let position = left.0 - 1;
     RoundAnswer::Tick { position, hashes }
@@ -154,7 +154,7 @@ fn run(head: Head, card: &mut [u8], out: &mut [u8]) -> RoundAnswer
     requires { ⌜ Running head (now card) (now out) ⌝ }
     ensures { λ a. ⌜ Turned head (now (card .entry)) (now (out .entry)) a (now (card .exit)) (now (out .exit)) ⌝ }
 {
-    let n = layout::slot_bytes(head);
+    let n = layout::slots_size(head);
     let end = 16 + n;
     let chain = Chain {
         function: head.function,

@@ -8,7 +8,7 @@ use denote.Enum.Declared.{tagOf}
 use types.Run.{OneOf}
 use lib.ListN.{length}
 use Rattle.card.proofs.RoundAnswer.{the-type}
-use Rattle.card.specs.Promises.{roundSays, ranSays}
+use Rattle.card.specs.Promises.{roundAnswerSays, tickOrQuiet}
 use Rattle.card.specs.declared.RoundAnswer.{RoundAnswer}
 use Rattle.card.specs.declared.RoundAnswer.the-variants.{Quiet, Tick, Refused}
 use Rattle.lists.specs.Written.{Written, written-none, first-fits, next-fits, written-both}
@@ -93,7 +93,7 @@ module _ (r : ℕ) (held : List ℕ) (at : ℕ) (text : List ℕ) where
 
 -- ---- what a round says tells its line
 
-pub line-told : (r : ℕ) (held : List ℕ) (a : RoundAnswer) (out : List ℕ) (hashes : ℕ) → roundSays a ≡ ranSays out hashes
+pub line-told : (r : ℕ) (held : List ℕ) (a : RoundAnswer) (out : List ℕ) (hashes : ℕ) → roundAnswerSays a ≡ tickOrQuiet out hashes
     → (answerLine r held a ≡ lineOf r hashes held out) × (answerHashes a ≡ hashes)
 unfolding answerLine answerHashes lineOf putOutField
 line-told r held (Quiet h) [] hashes e = let q : h ≡ hashes = cc in (rw q refl, q)

@@ -8,14 +8,14 @@ use borrow.Author.Tests.{ne-eqb, le-ltb}
 use lib.ListN.{length, take, drop, replicate}
 use lib.Pow.{pow-pos}
 use lib.Seq.{take-append-seam}
-use Rattle.card.specs.Promises.{Started, Rounded, ranSays, roundSaid, roundCard}
-use Rattle.card.specs.Record.{slotBytes, size}
+use Rattle.card.specs.Promises.{Started, Rounded, tickOrQuiet, roundMustSay, roundCard}
+use Rattle.card.specs.Record.{slotsSize, size}
 use Rattle.card.specs.Run.{Given, after, round-passes, after-holds}
 use Rattle.card.specs.declared.Answer.{Answer}
 use Rattle.card.specs.declared.RoundAnswer.{RoundAnswer}
 use Rattle.lists.specs.Writing.{over, over-length}
 use Rattle.oneway.specs.Step.{known, width}
-use Rattle.pebbling.specs.PositionList.{said, positionsSays, positionsLeft, Positioned}
+use Rattle.pebbling.specs.PositionList.{positionsAnswerSays, positionsMustSay, positionsList, Positioned}
 use Rattle.pebbling.specs.Recursion.{schedule, positions, work, putOut}
 use Rattle.pebbling.specs.declared.PositionsAnswer.{PositionsAnswer}
 use Rattle.pebbling.specs.declared.PositionsAnswer.the-variants.{Listed, Refused}
@@ -38,7 +38,7 @@ abbrev out : List ℕ
 out = replicate 16 0
 
 given : (s k : ℕ) → s ≤ 3 → k ≤ 10 → Given 0 k s seed lent
-unfolding known width size slotBytes
+unfolding known width size slotsSize
 given s k a b =
     record {
       known = refl;
@@ -60,8 +60,8 @@ module _ (s k r : ℕ) (ok : Round s k r) where
   g : Given 0 k s seed lent
   g = given s k (ok .scheduled) (ok .small)
 
-  round-said : roundSaid (cardBefore s k r) out ≡ ranSays (putOut k r 0) (work (schedule s) k r)
-  unfolding roundSaid
+  round-said : roundMustSay (cardBefore s k r) out ≡ tickOrQuiet (putOut k r 0) (work (schedule s) k r)
+  unfolding roundMustSay
   round-said = rw (round-passes 0 k s seed lent g r out (ok .from) (ok .upto) (wide 0)) refl
 
   round-left : roundCard (cardBefore s k r) out ≡ cardBefore s k (suc r)
@@ -82,8 +82,8 @@ module _ (s k r : ℕ) (ok : Round s k r) where
   abbrev zeros : List ℕ
   zeros = replicate 18 0
 
-  says : positionsSays k s r zeros ≡ 0 ∷ length ps ∷ work (schedule s) k r ∷ []
-  unfolding positionsSays
+  says : positionsMustSay k s r zeros ≡ 0 ∷ length ps ∷ work (schedule s) k r ∷ []
+  unfolding positionsMustSay
   says =
       rw (
         le-ltb 20 k (omega (arith, ok .small)),
@@ -98,38 +98,38 @@ module _ (s k r : ℕ) (ok : Round s k r) where
     pub never-refused : (why : Refusal) → answer ≡ Refused why → ⊥
     never-refused why e = go answer e (p .says ∙ says)
       where
-        go : (a : PositionsAnswer) → a ≡ Refused why → said a ≡ 0 ∷ length ps ∷ work (schedule s) k r ∷ [] → ⊥
+        go : (a : PositionsAnswer) → a ≡ Refused why → positionsAnswerSays a ≡ 0 ∷ length ps ∷ work (schedule s) k r ∷ [] → ⊥
         go (Refused x) q h = let z : _≡_ {A = ℕ} 0 1 = cc in omega arith
         go (Listed x y) q h = let z : _≡_ {A = ℕ} 0 1 = cc in omega arith
 
-    module _ (held hashes : ℕ) (e : answer ≡ Listed held hashes) where
-      pub held-is : held ≡ length ps
-      held-is =
-          let h : 0 ∷ held ∷ hashes ∷ [] ≡ 0 ∷ length ps ∷ work (schedule s) k r ∷ [] = sym (ap said e) ∙ p .says ∙ says in
+    module _ (count hashes : ℕ) (e : answer ≡ Listed count hashes) where
+      pub count-is : count ≡ length ps
+      count-is =
+          let h : 0 ∷ count ∷ hashes ∷ [] ≡ 0 ∷ length ps ∷ work (schedule s) k r ∷ [] = sym (ap positionsAnswerSays e) ∙ p .says ∙ says in
           cc
 
-      pub held-fits : held ≤ length list
-      unfolding positionsLeft
-      held-fits =
+      pub count-fits : count ≤ length list
+      unfolding positionsList
+      count-fits =
           let l : list ≡ over ps zeros = p .leaves ∙ rw says refl in
-          omega (arith, held-is, held-few s k r ok, ap length l, over-length ps zeros (held-few s k r ok))
+          omega (arith, count-is, held-few s k r ok, ap length l, over-length ps zeros (held-few s k r ok))
 
-      pub list-is : take held list ≡ ps
-      unfolding positionsLeft
-      list-is = rw (held-is, p .leaves, says) (take-append-seam ps (drop (length ps) zeros))
+      pub list-is : take count list ≡ ps
+      unfolding positionsList
+      list-is = rw (count-is, p .leaves, says) (take-append-seam ps (drop (length ps) zeros))
 
       -- ---- the round
 
       module _ (a : RoundAnswer) (card card′ out′ : List ℕ) (before : card ≡ cardBefore s k r) (t : Rounded card out a card′ out′) where
-        line-is : (answerLine r (take held list) a ≡ roundLine s k r) × (answerHashes a ≡ work (schedule s) k r)
+        line-is : (answerLine r (take count list) a ≡ roundLine s k r) × (answerHashes a ≡ work (schedule s) k r)
         unfolding roundLine
-        line-is = rw list-is (line-told r ps a (putOut k r 0) (work (schedule s) k r) (t .says ∙ ap (λ (b : List ℕ). roundSaid b out) before ∙ round-said))
+        line-is = rw list-is (line-told r ps a (putOut k r 0) (work (schedule s) k r) (t .says ∙ ap (λ (b : List ℕ). roundMustSay b out) before ∙ round-said))
 
         pub answer-fits : (text : List ℕ) (at : ℕ) → at + length (roundLine s k r) ≤ length text
-            → (length (take held list) ≤ 18) × (at + length (answerLine r (take held list) a) ≤ length text)
+            → (length (take count list) ≤ 18) × (at + length (answerLine r (take count list) a) ≤ length text)
         answer-fits text at room = (rw list-is (held-few s k r ok), rw (line-is .0) room)
 
-        pub line-says : (text : List ℕ) (at : ℕ) (line : Line) (text′ : List ℕ) → Lined (answerLine r (take held list) a) (answerHashes a) at text line text′
+        pub line-says : (text : List ℕ) (at : ℕ) (line : Line) (text′ : List ℕ) → Lined (answerLine r (take count list) a) (answerHashes a) at text line text′
             → Lined (roundLine s k r) (work (schedule s) k r) at text line text′
         line-says text at line text′ w = record { wrote = rw (← line-is .0) (w .wrote); counts = w .counts ∙ line-is .1 }
 

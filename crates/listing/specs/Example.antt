@@ -1,4 +1,4 @@
--- Document 01's example, that each line that can be read gets its listing, and lines that cannot be read: by computing. Assumes nothing.
+-- The example of docs/RULES.md, that each line that can be read gets its listing, and lines that cannot be read: by computing. Assumes nothing.
 use mathlib.Core.Path.{_≡_, refl}
 use mathlib.Core.List.{List, [], _∷_, _++_, map, flatMap}
 use Prim.Native.Nat.{ℕ, zero, suc, _/_, _%_}
@@ -43,7 +43,7 @@ use Rattle.listing.specs.Listing.{
   listed,
 }
 
--- ---- document 01, "Listing program"
+-- ---- docs/RULES.md, "Listing program"
 
 pub optimal-2 : listed (bytes "optimal 2\n") ≡ bytes "pebbles optimal 2\n1 0 1 0 -\n2 1 1 0 -\n3 2 2 1,0 -\n4 0 3 3,2,0 3\n5 1 2 2,0 2\n6 0 2 1,0 1\n7 0 1 0 0\ntotal 4\n"
 unfolding bytes decimal decimalIn nameOf lineFor reads field markBefore positionList putOutField heldFields lineOf roundLine roundLines headLine totalLine listingOf listedBy listed len lenIn total optimal schedule done place held itselfOr children running preparing putsOut holds does putOut positions work flatMap

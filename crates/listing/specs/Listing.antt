@@ -1,4 +1,4 @@
--- What the listing program writes, for every input: document 01, "Listing program". Assumes nothing.
+-- What the listing program writes, for every input: docs/RULES.md, "Listing program". Assumes nothing.
 use mathlib.Core.Path.{_≡_, sym, _∙_}
 use mathlib.Core.Bool.{Bool, true, false, cond, _&&_}
 use mathlib.Core.List.{List, [], _∷_, _++_}

@@ -3,7 +3,7 @@ use mathlib.Core.Path.{_≡_}
 use mathlib.Core.List.{List, [], _∷_}
 use Prim.Native.Nat.{ℕ, suc, _^_, _≤_, _<_}
 use lib.ListN.{replicate}
-use Rattle.card.specs.Run.{heldAt}
+use Rattle.card.specs.Run.{recordAt}
 use Rattle.card.specs.declared.RoundAnswer.{RoundAnswer}
 use Rattle.card.specs.declared.RoundAnswer.the-variants.{Quiet, Tick, Refused}
 use Rattle.lists.specs.Written.{Written}
@@ -48,4 +48,4 @@ pub record Round (s k r : ℕ) : Type 0 where
 
 -- the record before round r
 abbrev pub cardBefore : ℕ → ℕ → ℕ → List ℕ
-cardBefore s k r = heldAt 0 k s (replicate 16 0) (replicate 304 0) r
+cardBefore s k r = recordAt 0 k s (replicate 16 0) (replicate 304 0) r

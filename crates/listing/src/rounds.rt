@@ -86,12 +86,12 @@ fn put_round(schedule: u32, k: u32, round: u32, card: &mut [u8], at: usize, text
 {
     let mut list = [0u32; 18];
     let listed = pebbling::positions(k, schedule, round, &mut list);
-    let PositionsAnswer::Listed { held, hashes: _ } = listed else {
+    let PositionsAnswer::Listed { count, hashes: _ } = listed else {
         return Line { end: at, hashes: 0 };
     };
     let mut out = [0u8; 16];
     let answer = card::round(card, &mut out);
-    let n = held as usize;
+    let n = count as usize;
     put_answer(round, &list[..n], answer, at, text)
 }
 

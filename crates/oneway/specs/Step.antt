@@ -1,4 +1,4 @@
--- The one-way functions of document 01, and the two things that everything above speaks of: how wide a chain's values are, and what
+-- The one-way functions of docs/RULES.md, "Chain, card and post", and the two things that everything above speaks of: how wide a chain's values are, and what
 -- comes after a value. Assumes nothing.
 use mathlib.Core.Bool.{Bool}
 use mathlib.Core.List.{List, [], _∷_, _++_}

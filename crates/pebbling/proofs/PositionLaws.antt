@@ -15,38 +15,38 @@ use Rattle.pebbling.specs.declared.PositionsAnswer.the-variants.{Listed,
 use Rattle.pebbling.specs.Recursion.{schedule, positions, work}
 use Rattle.pebbling.specs.SideBySide.{positions-ended, work-ended}
 use Rattle.pebbling.specs.Promises.{Power, Tallied}
-use Rattle.pebbling.specs.PositionList.{positionsSays, positionsLeft, Positioned}
+use Rattle.pebbling.specs.PositionList.{positionsMustSay, positionsList, Positioned}
 use Rattle.pebbling.proofs.HashLaws.{next-power}
 
 module _ (k s r : ℕ) (list : List ℕ) where
-  refused : (why : Refusal) → positionsSays k s r list ≡ saidOf why → Positioned k s r list (Refused why) list
-  unfolding positionsLeft
+  refused : (why : Refusal) → positionsMustSay k s r list ≡ saidOf why → Positioned k s r list (Refused why) list
+  unfolding positionsList
   refused why e = record { says = sym e; leaves = rw (e, number-not-0 why) refl }
 
   pub refused-k : 20 < k → Positioned k s r list (Refused TooManyTicks) list
-  unfolding positionsSays
+  unfolding positionsMustSay
   refused-k h = refused TooManyTicks (simp (lt-ltb 20 k h))
 
   module _ (k≤20 : k ≤ 20) where
     pub refused-schedule : 3 < s → Positioned k s r list (Refused UnknownSchedule) list
-    unfolding positionsSays
+    unfolding positionsMustSay
     refused-schedule h = refused UnknownSchedule (simp (le-ltb 20 k k≤20, lt-ltb 3 s h))
 
     module _ (s≤3 : s ≤ 3) where
       pub refused-zero : r ≡ 0 → Positioned k s r list (Refused BadRecord) list
-      unfolding positionsSays
+      unfolding positionsMustSay
       refused-zero e = refused BadRecord (simp (le-ltb 20 k k≤20, le-ltb 3 s s≤3, eq-eqb r 0 e))
 
       module _ (r≢0 : r ≡ 0 → ⊥) (end : ℕ) (p : Power (k + 1) end) where
         pub refused-late : end < r → Positioned k s r list (Refused BadRecord) list
-        unfolding positionsSays
+        unfolding positionsMustSay
         refused-late h =
             refused BadRecord (simp (le-ltb 20 k k≤20, le-ltb 3 s s≤3, ne-eqb r 0 r≢0, lt-ltb (2 ^ suc k) r (omega (arith, next-power k end p))))
 
         module _ (in-time : r ≤ end) where
           -- refusal 4 is all that may still come
           by-length : (b : ℕ) → length (positions (schedule s) k r 0) ≡ b → length list < b → Positioned k s r list (Refused WrongLength) list
-          unfolding positionsSays
+          unfolding positionsMustSay
           by-length b e h =
               refused WrongLength (simp (
                 le-ltb 20 k k≤20,
@@ -58,9 +58,9 @@ module _ (k s r : ℕ) (list : List ℕ) where
 
           listed : (n w : ℕ) (list′ : List ℕ) → n ≡ length (positions (schedule s) k r 0) → w ≡ work (schedule s) k r → n ≤ length list
               → list′ ≡ over (positions (schedule s) k r 0) list → Positioned k s r list (Listed n w) list′
-          unfolding positionsSays positionsLeft
+          unfolding positionsMustSay positionsList
           listed n w list′ a b h e =
-              let t : positionsSays k s r list ≡ 0 ∷ length (positions (schedule s) k r 0) ∷ work (schedule s) k r ∷ [] =
+              let t : positionsMustSay k s r list ≡ 0 ∷ length (positions (schedule s) k r 0) ∷ work (schedule s) k r ∷ [] =
               simp (
                 le-ltb 20 k k≤20,
                 le-ltb 3 s s≤3,

@@ -1,4 +1,4 @@
--- Document 01's twelve cases, on both sides of the edges: one table with one proof, by computing the definitions. Assumes nothing.
+-- The twelve cases of docs/RULES.md, on both sides of the edges: one table with one proof, by computing the definitions. Assumes nothing.
 use mathlib.Core.Path.{_≡_, refl}
 use mathlib.Core.List.{List, [], _∷_, _++_, map, flatMap, zipWith}
 use Prim.Native.Nat.{ℕ, suc}
@@ -42,7 +42,7 @@ use Rattle.pebbling.specs.Recursion.{
 abbrev ticksOf : ℕ → List ℕ
 ticksOf s = flatMap (λ (r : ℕ). tick (schedule s) 2 r (before (schedule s) suc 2 0 r)) (row (λ (r : ℕ). r) 1 7)
 
--- what the definitions give, and what document 01 says
+-- what the definitions give, and what docs/RULES.md says
 abbrev table : List (List ℕ × List ℕ)
 table =
     -- 1, 2, 3: T_2, T_3 and T_4, optimal

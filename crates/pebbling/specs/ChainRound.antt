@@ -12,7 +12,7 @@ use lib.Seq.{take-at, drop-at}
 use lib.Pow.{pow-pos}
 use Rattle.pebbling.specs.Len.{lt-or-le}
 use Rattle.pebbling.specs.Recursion.{done, place, held, hashes, positions, tick, round, before, chain}
-use Rattle.pebbling.specs.SideBySide.{sidePositions, positions-itself, positions-children, sidePositions-zero, sidePositions-both, sidePositions-last, sidePositions-late, sideHeld, side-length}
+use Rattle.pebbling.specs.SideBySide.{sidePositions, positions-itself, positions-children, sidePositions-zero, sidePositions-both, sidePositions-last, sidePositions-late, sideHeldCount, side-length}
 use Rattle.pebbling.specs.Turns.{sideRound, round-prepare, round-out, round-children, sideRound-both, sideRound-last, sideRound-late, tick-first}
 use Rattle.pebbling.specs.OnePebbler.{places, places-snoc, places-upper, held-none, held-all, held-hashes}
 use Rattle.pebbling.specs.HashesDone.{Fair, done-first, done-suc, done-all, done-fits}
@@ -47,7 +47,7 @@ module _ (t : ℕ → ℕ → ℕ) (t-fair : Fair t) {A : Type 0} (f : A → A) 
 
   -- ---- its children
 
-  side-at : (k n base : ℕ) → length (at (sidePositions t k n base)) ≡ sideHeld t k n
+  side-at : (k n base : ℕ) → length (at (sidePositions t k n base)) ≡ sideHeldCount t k n
   side-at k n base = length-map (sidePositions t k n base) (chain f seed) ∙ side-length t k n base
 
   side-round : (k n base : ℕ) → 0 < n → n < 2 ^ k → sideRound t f k n (at (sidePositions t k n base)) ≡ at (sidePositions t k (suc n) base)
@@ -69,15 +69,15 @@ module _ (t : ℕ → ℕ → ℕ) (t-fair : Fair t) {A : Type 0} (f : A → A) 
               ∙ rw (sidePositions-last t k n base e, sidePositions-late t k (suc n) base (omega arith), d) (handed-over k n base e)
           by (inr l) =
               let b : ℕ = base + 2 ^ k in
-              let m : length (at (sidePositions t k n b)) ≡ sideHeld t k n = side-at k n b in
+              let m : length (at (sidePositions t k n b)) ≡ sideHeldCount t k n = side-at k n b in
               sideRound-both t f k n (at (sidePositions t (suc k) n base)) l (side-at (suc k) n base)
               ∙ rw (
                 sidePositions-both t k n base g,
                 sidePositions-both t k (suc n) base l,
                 map-append (chain f seed) (sidePositions t k n b) (held k (done t k n) base),
                 map-append (chain f seed) (sidePositions t k (suc n) b) (held k (done t k (suc n)) base),
-                take-at (at (sidePositions t k n b)) (at (held k (done t k n) base)) (sideHeld t k n) m,
-                drop-at (at (sidePositions t k n b)) (at (held k (done t k n) base)) (sideHeld t k n) m,
+                take-at (at (sidePositions t k n b)) (at (held k (done t k n) base)) (sideHeldCount t k n) m,
+                drop-at (at (sidePositions t k n b)) (at (held k (done t k n) base)) (sideHeldCount t k n) m,
                 ih n b p l,
                 prepared k n base p l,
               ) refl

@@ -1,4 +1,4 @@
--- What document 01 asks of a card of 2^k ticks, as plain statements about the definitions of Recursion, under each of the four schedules and for every k.
+-- What docs/RULES.md asks of a card of 2^k ticks, as plain statements about the definitions of Recursion, under each of the four schedules and for every k.
 -- Round numbers run from 1 to 2^(k+1) - 1; c stands for the rounds left after the round, so r + c + 1 is 2^(k+1). Assumes nothing.
 use mathlib.Core.Path.{_≡_, refl, sym, ap, _∙_}
 use mathlib.Core.List.{[], _∷_, map}

@@ -12,14 +12,14 @@ use Rattle.pebbling.specs.declared.PositionsAnswer.{PositionsAnswer}
 use Rattle.pebbling.specs.declared.PositionsAnswer.the-variants.{Listed, Refused}
 use Rattle.pebbling.specs.Recursion.{schedule, positions, work}
 
--- an answer in document 01's numbers: a refusal's number alone; otherwise 0, how many positions there are, and the hashes of the round
-abbrev pub said : PositionsAnswer → List ℕ
-said (Refused why) = saidOf why
-said (Listed held hashes) = 0 ∷ held ∷ hashes ∷ []
+-- an answer in the counter's numbers (docs/RULES.md): a refusal's number alone; otherwise 0, how many positions there are, and the hashes of the round
+abbrev pub positionsAnswerSays : PositionsAnswer → List ℕ
+positionsAnswerSays (Refused why) = saidOf why
+positionsAnswerSays (Listed count hashes) = 0 ∷ count ∷ hashes ∷ []
 
 -- refusals 2, 3, 5 and 4 in this order; r is from 1 to 2^(k+1)
-unfoldable pub positionsSays : ℕ → ℕ → ℕ → List ℕ → List ℕ
-positionsSays k s r list =
+unfoldable pub positionsMustSay : ℕ → ℕ → ℕ → List ℕ → List ℕ
+positionsMustSay k s r list =
     cond (ltb 20 k) (2 ∷ [])
     (cond (ltb 3 s) (3 ∷ [])
     (cond (eqb r 0) (5 ∷ [])
@@ -28,16 +28,16 @@ positionsSays k s r list =
     (0 ∷ length (positions (schedule s) k r 0) ∷ work (schedule s) k r ∷ [])))))
 
 -- without a refusal the positions stand in front, and the entries behind them stay; a refusal changes nothing
-unfoldable pub positionsLeft : ℕ → ℕ → ℕ → List ℕ → List ℕ
-positionsLeft k s r list = cond (eqb (getD (positionsSays k s r list) 0 0) 0) (over (positions (schedule s) k r 0) list) list
+unfoldable pub positionsList : ℕ → ℕ → ℕ → List ℕ → List ℕ
+positionsList k s r list = cond (eqb (getD (positionsMustSay k s r list) 0 0) 0) (over (positions (schedule s) k r 0) list) list
 
 -- the promise of the call: one answer and one content of the list
 pub record Positioned (k s r : ℕ) (list : List ℕ) (answer : PositionsAnswer) (list′ : List ℕ) : Type 0 where
-  pub says : said answer ≡ positionsSays k s r list
-  pub leaves : list′ ≡ positionsLeft k s r list
+  pub says : positionsAnswerSays answer ≡ positionsMustSay k s r list
+  pub leaves : list′ ≡ positionsList k s r list
 
--- what is said tells the answer
-pub positions-told : (a b : PositionsAnswer) → said a ≡ said b → a ≡ b
+-- what is positionsAnswerSays tells the answer
+pub positions-told : (a b : PositionsAnswer) → positionsAnswerSays a ≡ positionsAnswerSays b → a ≡ b
 positions-told (Refused x) (Refused y) e = ap Refused (said-tells x y e)
 positions-told (Refused x) (Listed m v) e = let z : _≡_ {A = ℕ} 0 1 = cc in absurd (omega arith)
 positions-told (Listed n w) (Refused y) e = let z : _≡_ {A = ℕ} 0 1 = cc in absurd (omega arith)

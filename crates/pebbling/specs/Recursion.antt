@@ -1,4 +1,4 @@
--- The published recursion: document 01's section of that name, sentence by sentence, and the article's figures 1 and 4.
+-- The published recursion: docs/RULES.md, section of that name, sentence by sentence, and the article's figures 1 and 4.
 -- Everything that is claimed of pebbling is claimed of these definitions. Assumes nothing.
 use mathlib.Core.Bool.{Bool, true, false, cond}
 use mathlib.Core.List.{List, [], _∷_, _++_, map, flatMap, foldr, zipWith}
@@ -188,6 +188,6 @@ chain f seed (suc n) = f (chain f seed n)
 
 -- ---- room
 
--- how many values a card's record has slots for (document 01, "Records"), by the schedule's number
+-- how many values a card's record has slots for (docs/RULES.md, "Records"), by the schedule's number
 unfoldable pub slots : ℕ → ℕ → ℕ
 slots s k = cond (eqb s 1) (max (k + 1) (2 * k - 2)) (k + 1)

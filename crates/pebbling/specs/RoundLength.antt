@@ -9,7 +9,7 @@ use native.Mathlib.Omega.{arith}
 use lib.ListN.{length, take, drop, length-append, length-take, length-drop}
 use Rattle.pebbling.specs.Len.{lt-or-le}
 use Rattle.pebbling.specs.Recursion.{done, held, finished, hash, hashes, positions, round}
-use Rattle.pebbling.specs.SideBySide.{held-some, sidePositions, positions-itself, positions-children, sidePositions-both, sidePositions-last, sidePositions-late, sideHeld, side-length}
+use Rattle.pebbling.specs.SideBySide.{held-some, sidePositions, positions-itself, positions-children, sidePositions-both, sidePositions-last, sidePositions-late, sideHeldCount, side-length}
 use Rattle.pebbling.specs.Turns.{sideRound, round-prepare, round-out, round-children, sideRound-both, sideRound-last, sideRound-late}
 use Rattle.pebbling.specs.OnePebbler.{places-length, held-all, held-begin, held-on}
 use Rattle.pebbling.specs.HashesDone.{Fair, done-suc, done-all, done-fits}
@@ -41,25 +41,25 @@ module _ {A : Type 0} (f : A → A) where
         let n : length ys ≡ suc k = e ∙ rw (done-all t t-fair k r h, held-all k a) (places-length k 0 (suc k) a) in
         length-drop 1 ys ∙ rw (children-begin t k a) (omega (arith, places-length k 1 k a))
 
-    side-round : (k n : ℕ) (ys : List A) → 0 < n → n < 2 ^ k → length ys ≡ sideHeld t k n → length (sideRound t f k n ys) ≡ sideHeld t k (suc n)
+    side-round : (k n : ℕ) (ys : List A) → 0 < n → n < 2 ^ k → length ys ≡ sideHeldCount t k n → length (sideRound t f k n ys) ≡ sideHeldCount t k (suc n)
     side-round zero n ys p h e = absurd (omega arith)
     side-round (suc k) n ys p h e = go (λ n ys p h e. side-round k n ys p h e) (lt-or-le (2 ^ k) n)
       where
-        go : ((n : ℕ) (ys : List A) → 0 < n → n < 2 ^ k → length ys ≡ sideHeld t k n → length (sideRound t f k n ys) ≡ sideHeld t k (suc n))
-            → (2 ^ k < n) ⊎ (n ≤ 2 ^ k) → length (sideRound t f (suc k) n ys) ≡ sideHeld t (suc k) (suc n)
+        go : ((n : ℕ) (ys : List A) → 0 < n → n < 2 ^ k → length ys ≡ sideHeldCount t k n → length (sideRound t f k n ys) ≡ sideHeldCount t k (suc n))
+            → (2 ^ k < n) ⊎ (n ≤ 2 ^ k) → length (sideRound t f (suc k) n ys) ≡ sideHeldCount t (suc k) (suc n)
         go ih (inl g) =
             let d : suc n - 2 ^ k ≡ suc (n - 2 ^ k) = omega arith in
             rw (sideRound-late t f k n ys g, sidePositions-late t k (suc n) 0 (omega arith), d)
             (ih (n - 2 ^ k) ys (omega arith) (omega arith) (e ∙ ap length (sidePositions-late t k n 0 g)))
         go ih (inr g) = by (eq-or-lt-of-le g)
           where
-            by : (n ≡ 2 ^ k) ⊎ (n < 2 ^ k) → length (sideRound t f (suc k) n ys) ≡ sideHeld t (suc k) (suc n)
+            by : (n ≡ 2 ^ k) ⊎ (n < 2 ^ k) → length (sideRound t f (suc k) n ys) ≡ sideHeldCount t (suc k) (suc n)
             by (inl q) =
                 let d : suc n - 2 ^ k ≡ 1 = omega arith in
                 rw (sideRound-last t f k n ys q e, sidePositions-late t k (suc n) 0 (omega arith), d)
                 (handed-over k n 0 ys q (e ∙ ap length (sidePositions-last t k n 0 q)))
             by (inr l) =
-                let m : ℕ = sideHeld t k n in
+                let m : ℕ = sideHeldCount t k n in
                 let w : length ys ≡ m + length (held k (done t k n) 0) =
                 e ∙ ap length (sidePositions-both t k n 0 g) ∙ length-append (sidePositions t k n (0 + 2 ^ k)) (held k (done t k n) 0) ∙ rw (side-length t k n (0 + 2 ^ k)) refl in
                 let a : length (take m ys) ≡ m = length-take m ys ∙ omega arith in

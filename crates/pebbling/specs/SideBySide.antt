@@ -172,8 +172,8 @@ module _ (t : ℕ → ℕ → ℕ) where
   sidePositions-late k n base h = rw (side-late k n base h) refl
 
   -- how many: the base does not matter
-  abbrev pub sideHeld : ℕ → ℕ → ℕ
-  sideHeld k n = length (sidePositions k n 0)
+  abbrev pub sideHeldCount : ℕ → ℕ → ℕ
+  sideHeldCount k n = length (sidePositions k n 0)
 
   pub holds-length : (ps : List Pebbler) (b : ℕ) → length (flatMap (holds t) (map (shift b) ps)) ≡ length (flatMap (holds t) ps)
   unfolding flatMap holds
@@ -182,15 +182,15 @@ module _ (t : ℕ → ℕ → ℕ) where
       simp length-append (omega (arith, holds-length ps b, held-base (p .level) (done t (p .level) (p .round)) (p .base + b) (p .base)))
 
   -- a pebbler holds one value at least, and so do the children while they run
-  pub side-some : (k n : ℕ) → 0 < n → n < 2 ^ k → 0 < sideHeld k n
+  pub side-some : (k n : ℕ) → 0 < n → n < 2 ^ k → 0 < sideHeldCount k n
   side-some zero n p h = omega arith
   side-some (suc k) n p h = go (λ n p h. side-some k n p h) (lt-or-le (2 ^ k) n)
     where
-      go : ((n : ℕ) → 0 < n → n < 2 ^ k → 0 < sideHeld k n) → (2 ^ k < n) ⊎ (n ≤ 2 ^ k) → 0 < sideHeld (suc k) n
+      go : ((n : ℕ) → 0 < n → n < 2 ^ k → 0 < sideHeldCount k n) → (2 ^ k < n) ⊎ (n ≤ 2 ^ k) → 0 < sideHeldCount (suc k) n
       go ih (inl g) = rw (sidePositions-late k n 0 g) (ih (n - 2 ^ k) (omega arith) (omega arith))
       go ih (inr g) = rw (sidePositions-both k n 0 g, length-append) (omega (arith, held-some k (done t k n) 0))
 
-  pub side-length : (k n base : ℕ) → length (sidePositions k n base) ≡ sideHeld k n
+  pub side-length : (k n base : ℕ) → length (sidePositions k n base) ≡ sideHeldCount k n
   unfolding sidePositions
   side-length k n base = rw (side-shift k n base) (holds-length (side k n 0) base)
 

@@ -10,7 +10,7 @@ use lib.ListN.{length, take, drop, length-append, length-take, length-drop}
 use lib.Seq.{take-all, take-take, drop-drop, take-nil}
 use Rattle.pebbling.specs.Len.{lt-or-le}
 use Rattle.pebbling.specs.Recursion.{done, held, hashes, Pebbler, running, preparing, gives, holds, keeps, inTurn, positions, tick, round}
-use Rattle.pebbling.specs.SideBySide.{held-base, running-split, running-shift, positions-length, shift, side, pebbler, running-itself, running-children, side-both, side-last, side-late, side-shift, sidePositions, sidePositions-both, sidePositions-last, sidePositions-late, positions-itself, positions-children, sideHeld, side-some, holds-length, side-length}
+use Rattle.pebbling.specs.SideBySide.{held-base, running-split, running-shift, positions-length, shift, side, pebbler, running-itself, running-children, side-both, side-last, side-late, side-shift, sidePositions, sidePositions-both, sidePositions-last, sidePositions-late, positions-itself, positions-children, sideHeldCount, side-some, holds-length, side-length}
 
 drop-take : {A : Type 0} (n m : ℕ) (s : List A) → drop n (take (n + m) s) ≡ take m (drop n s)
 drop-take zero m s = let e : 0 + m ≡ m = omega arith in rw e refl
@@ -58,16 +58,16 @@ module _ (t : ℕ → ℕ → ℕ) {A : Type 0} where
     unfolding sideTurn
     turn-late k n ys h = rw (side-late k n 0 h) refl
 
-    turn-last : (k n : ℕ) (ys : List A) → n ≡ 2 ^ k → length ys ≡ sideHeld t (suc k) n → sideTurn (suc k) n ys ≡ g (pebbler k n 0) ys
+    turn-last : (k n : ℕ) (ys : List A) → n ≡ 2 ^ k → length ys ≡ sideHeldCount t (suc k) n → sideTurn (suc k) n ys ≡ g (pebbler k n 0) ys
     unfolding sideTurn holds
     turn-last k n ys h e = rw (side-last k n 0 h) (inTurn-one g (pebbler k n 0) ys (e ∙ ap length (sidePositions-last t k n 0 h)))
 
     module _ (baseless : Baseless g) where
-      turn-both : (k n : ℕ) (ys : List A) → n ≤ 2 ^ k → length ys ≡ sideHeld t (suc k) n
-          → sideTurn (suc k) n ys ≡ sideTurn k n (take (sideHeld t k n) ys) ++ g (pebbler k n 0) (drop (sideHeld t k n) ys)
+      turn-both : (k n : ℕ) (ys : List A) → n ≤ 2 ^ k → length ys ≡ sideHeldCount t (suc k) n
+          → sideTurn (suc k) n ys ≡ sideTurn k n (take (sideHeldCount t k n) ys) ++ g (pebbler k n 0) (drop (sideHeldCount t k n) ys)
       unfolding sideTurn sidePositions holds
       turn-both k n ys h e =
-          let m : ℕ = sideHeld t k n in
+          let m : ℕ = sideHeldCount t k n in
           let l : length (drop m ys) ≡ length (held k (done t k n) 0) =
           length-drop m ys ∙ omega (arith, ap length (sidePositions-both t k n 0 h), length-append (sidePositions t k n (0 + 2 ^ k)) (held k (done t k n) 0), side-length t k n (0 + 2 ^ k)) in
           rw (
@@ -111,12 +111,12 @@ module _ (t : ℕ → ℕ → ℕ) {A : Type 0} where
     round-children k r ys h = rw (running-children k r 0 h) refl
 
     -- the children, in the three ways
-    pub sideRound-both : (k n : ℕ) (ys : List A) → n < 2 ^ k → length ys ≡ sideHeld t (suc k) n
-        → sideRound (suc k) n ys ≡ sideRound k n (take (sideHeld t k n) ys) ++ hashes f k (done t k n) (t k n) (drop (sideHeld t k n) ys)
+    pub sideRound-both : (k n : ℕ) (ys : List A) → n < 2 ^ k → length ys ≡ sideHeldCount t (suc k) n
+        → sideRound (suc k) n ys ≡ sideRound k n (take (sideHeldCount t k n) ys) ++ hashes f k (done t k n) (t k n) (drop (sideHeldCount t k n) ys)
     unfolding sideRound sideTurn
-    sideRound-both k n ys h e = turn-both (keeps t f) keeps-baseless k n ys (omega arith) e ∙ rw (prepares k n 0 (drop (sideHeld t k n) ys) h) refl
+    sideRound-both k n ys h e = turn-both (keeps t f) keeps-baseless k n ys (omega arith) e ∙ rw (prepares k n 0 (drop (sideHeldCount t k n) ys) h) refl
 
-    pub sideRound-last : (k n : ℕ) (ys : List A) → n ≡ 2 ^ k → length ys ≡ sideHeld t (suc k) n → sideRound (suc k) n ys ≡ drop 1 ys
+    pub sideRound-last : (k n : ℕ) (ys : List A) → n ≡ 2 ^ k → length ys ≡ sideHeldCount t (suc k) n → sideRound (suc k) n ys ≡ drop 1 ys
     unfolding sideRound sideTurn
     sideRound-last k n ys h e = turn-last (keeps t f) k n ys h e ∙ puts k n 0 ys h
 
@@ -146,11 +146,11 @@ module _ (t : ℕ → ℕ → ℕ) {A : Type 0} where
   first-of : (m : ℕ) (ys : List A) → 0 < m → take 1 (take m ys) ≡ take 1 ys
   first-of m ys h = take-take 1 m ys h
 
-  side-tick : (k n : ℕ) (ys : List A) → 0 < n → n < 2 ^ k → length ys ≡ sideHeld t k n → sideTurn gives k n ys ≡ take 1 ys
+  side-tick : (k n : ℕ) (ys : List A) → 0 < n → n < 2 ^ k → length ys ≡ sideHeldCount t k n → sideTurn gives k n ys ≡ take 1 ys
   side-tick zero n ys p h e = absurd (omega arith)
   side-tick (suc k) n ys p h e = go (λ n ys p h e. side-tick k n ys p h e) (lt-or-le (2 ^ k) n)
     where
-      go : ((n : ℕ) (ys : List A) → 0 < n → n < 2 ^ k → length ys ≡ sideHeld t k n → sideTurn gives k n ys ≡ take 1 ys)
+      go : ((n : ℕ) (ys : List A) → 0 < n → n < 2 ^ k → length ys ≡ sideHeldCount t k n → sideTurn gives k n ys ≡ take 1 ys)
           → (2 ^ k < n) ⊎ (n ≤ 2 ^ k) → sideTurn gives (suc k) n ys ≡ take 1 ys
       go ih (inl g) = turn-late gives k n ys g ∙ ih (n - 2 ^ k) ys (omega arith) (omega arith) (e ∙ ap length (sidePositions-late t k n 0 g))
       go ih (inr g) = by (eq-or-lt-of-le g)
@@ -158,7 +158,7 @@ module _ (t : ℕ → ℕ → ℕ) {A : Type 0} where
           by : (n ≡ 2 ^ k) ⊎ (n < 2 ^ k) → sideTurn gives (suc k) n ys ≡ take 1 ys
           by (inl q) = turn-last gives k n ys q e ∙ out k n 0 ys q
           by (inr q) =
-              let m : ℕ = sideHeld t k n in
+              let m : ℕ = sideHeldCount t k n in
               let l : length (take m ys) ≡ m =
               length-take m ys ∙ omega (arith, ap length (sidePositions-both t k n 0 g), length-append (sidePositions t k n (0 + 2 ^ k)) (held k (done t k n) 0), side-length t k n (0 + 2 ^ k)) in
               turn-both gives gives-baseless k n ys g e

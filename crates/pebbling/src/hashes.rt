@@ -131,7 +131,7 @@ pub fn hashes_done(schedule: u32, k: u32, round: RoundNumber) -> u32
 }
 
 // How many values P_k holds, h hashes into its preparing rounds.
-pub fn held_after(k: u32, h: u32) -> u32
+pub fn held_count_after(k: u32, h: u32) -> u32
     requires { ⌜ (k ≤ 20) × (h < 2 ^ k) ⌝ }
     ensures { λ n. ⌜ Holds k h n ⌝ }
 {

@@ -30,7 +30,7 @@ pub fn rounds_left(k: u32, round: RoundNumber) -> RoundsLeft
 // What the position list answers.
 pub enum PositionsAnswer {
     // The positions were written: how many, and the hashes of the round.
-    Listed { held: u32, hashes: u32 },
+    Listed { count: u32, hashes: u32 },
     // Nothing was written.
     Refused(Refusal),
 }
@@ -56,16 +56,19 @@ pub fn positions(k: u32, schedule: u32, round: u32, list: &mut [u32]) -> Positio
         return PositionsAnswer::Refused(Refusal::BadRecord);
     }
     if round == end {
-        return PositionsAnswer::Listed { held: 0, hashes: 0 };
+        return PositionsAnswer::Listed {
+            count: 0,
+            hashes: 0,
+        };
     }
     let counted = tally::count(schedule, k, RoundNumber(round));
-    let held = counted.before;
-    if list.len() < held as usize {
+    let count = counted.before;
+    if list.len() < count as usize {
         return PositionsAnswer::Refused(Refusal::WrongLength);
     }
     position_list::list_all(schedule, k, RoundNumber(round), 0, 0, list);
     PositionsAnswer::Listed {
-        held,
+        count,
         hashes: counted.work,
     }
 }

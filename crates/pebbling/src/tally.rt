@@ -6,7 +6,7 @@ ghost use Rattle.pebbling.specs.Promises.{Fitting, Tallied};
 use super::RoundNumber;
 use super::hashes::hashes_done;
 use super::hashes::hashes_in;
-use super::hashes::held_after;
+use super::hashes::held_count_after;
 use super::powers::power;
 
 // The values held before a round and after it, and the hashes in it.
@@ -43,8 +43,8 @@ fn count_own(schedule: u32, k: u32, round: RoundNumber) -> Tally
     }
     let h = hashes_done(schedule, k, round);
     let t = hashes_in(schedule, k, round);
-    let before = held_after(k, h);
-    let after = held_after(k, h + t);
+    let before = held_count_after(k, h);
+    let after = held_count_after(k, h + t);
     Tally {
         before,
         after,

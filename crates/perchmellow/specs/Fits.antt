@@ -13,12 +13,12 @@ use lib.Pow.{pow-mono}
 use Rattle.pebbling.specs.Demands.{preparing-rounds-are-quiet, paying-rounds-pay, never-more-than-slots}
 use Rattle.pebbling.specs.HashesDone.{fair}
 use Rattle.pebbling.specs.Len.{lt-or-le}
-use Rattle.pebbling.specs.PositionList.{positionsSays, Positioned}
+use Rattle.pebbling.specs.PositionList.{positionsMustSay, Positioned}
 use Rattle.pebbling.specs.Recursion.{schedule, positions, putOut, work, slots}
 use Rattle.pebbling.specs.Totals.{work-lt}
 use Rattle.pebbling.specs.declared.PositionsAnswer.{PositionsAnswer}
 use Rattle.pebbling.specs.declared.PositionsAnswer.the-variants.{Listed, Refused as NoList}
-use Rattle.card.specs.Promises.{ranSays, roundSays, roundSaidBy, roundSaid, Rounded}
+use Rattle.card.specs.Promises.{tickOrQuiet, roundAnswerSays, judgedRoundSays, roundMustSay, Rounded}
 use Rattle.card.specs.Refused.{roundJudged}
 use Rattle.card.specs.Sound.{runs}
 use Rattle.card.specs.declared.Inspected.{Inspected}
@@ -44,7 +44,7 @@ RoundFits (Tick position hashes) = Fits position hashes
 RoundFits (NoRound refusal) = Fits 0 0
 
 abbrev pub PositionsFit : PositionsAnswer → Type 0
-PositionsFit (Listed held hashes) = Fits held hashes
+PositionsFit (Listed count hashes) = Fits count hashes
 PositionsFit (NoList refusal) = Fits 0 0
 
 abbrev pub OfferFits : OfferAnswer → Type 0
@@ -71,7 +71,7 @@ put-out-fits k r p rest small upto e = go (lt-or-le r (2 ^ k))
         omega (arith, same, pow-mono {i = suc k} {j = 21} (omega arith))
 
 ran-fits : (k r hashes : ℕ) (out : List ℕ) (a : RoundAnswer) → k ≤ 20 → r < 2 ^ suc k → hashes < 2 ^ 24 → putOut k r 0 ≡ out
-    → roundSays a ≡ ranSays out hashes → RoundFits a
+    → roundAnswerSays a ≡ tickOrQuiet out hashes → RoundFits a
 ran-fits k r hashes [] (Quiet h) small upto f q e = let same : h ≡ hashes = cc in record { first-fits = omega arith; second-fits = omega (arith, same, f) }
 ran-fits k r hashes (p ∷ ps) (Quiet h) small upto f q e = let z : _≡_ {A = ℕ} 0 1 = cc in absurd (omega arith)
 ran-fits k r hashes [] (Tick n h) small upto f q e = let z : _≡_ {A = ℕ} 0 1 = cc in absurd (omega arith)
@@ -81,16 +81,16 @@ ran-fits k r hashes (p ∷ ps) (Tick n h) small upto f q e =
     record { first-fits = omega (arith, here, put-out-fits k r p ps small upto q); second-fits = omega (arith, same, f) }
 ran-fits k r hashes out (NoRound x) small upto f q e = nothing-fits
 
-turned-down-fits : (n : ℕ) (a : RoundAnswer) → roundSays a ≡ n ∷ [] → RoundFits a
+turned-down-fits : (n : ℕ) (a : RoundAnswer) → roundAnswerSays a ≡ n ∷ [] → RoundFits a
 turned-down-fits n (Quiet h) e = let z : _≡_ {A = ℕ} 0 1 = cc in absurd (omega arith)
 turned-down-fits n (Tick p h) e = let z : _≡_ {A = ℕ} 0 1 = cc in absurd (omega arith)
 turned-down-fits n (NoRound x) e = nothing-fits
 
 pub round-fits : (card out : List ℕ) (a : RoundAnswer) (card′ out′ : List ℕ) → Rounded card out a card′ out′ → RoundFits a
-unfolding roundSaid
+unfolding roundMustSay
 round-fits card out a card′ out′ kept = go (roundJudged card out) refl (kept .says)
   where
-    go : (seen : Inspected) → roundJudged card out ≡ seen → roundSays a ≡ roundSaidBy seen → RoundFits a
+    go : (seen : Inspected) → roundJudged card out ≡ seen → roundAnswerSays a ≡ judgedRoundSays seen → RoundFits a
     go (TurnedDown x) q e = turned-down-fits _ a e
     go (Card h) q e =
         let ok = runs card out h q in
@@ -108,22 +108,22 @@ slots-few s k h = go (eqb s 1)
     go false = omega arith
 
 -- an answer with numbers is not a test that refused
-not-said : (b : Bool) (n held hashes : ℕ) (rest : List ℕ) → 0 ∷ held ∷ hashes ∷ [] ≡ cond b (n ∷ []) rest → (b ≡ false) × (0 ∷ held ∷ hashes ∷ [] ≡ rest)
-not-said true n held hashes rest e = let z : _≡_ {A = ℕ} 0 1 = cc in absurd (omega arith)
-not-said false n held hashes rest e = (refl, e)
+not-said : (b : Bool) (n count hashes : ℕ) (rest : List ℕ) → 0 ∷ count ∷ hashes ∷ [] ≡ cond b (n ∷ []) rest → (b ≡ false) × (0 ∷ count ∷ hashes ∷ [] ≡ rest)
+not-said true n count hashes rest e = let z : _≡_ {A = ℕ} 0 1 = cc in absurd (omega arith)
+not-said false n count hashes rest e = (refl, e)
 
-listed-fits : (k s r : ℕ) (list : List ℕ) (held hashes : ℕ) → 0 ∷ held ∷ hashes ∷ [] ≡ positionsSays k s r list → Fits held hashes
-unfolding positionsSays
-listed-fits k s r list held hashes e =
-    let a = not-said (ltb 20 k) 2 held hashes _ e in
-    let b = not-said (ltb 3 s) 3 held hashes _ (a .1) in
-    let c = not-said (eqb r 0) 5 held hashes _ (b .1) in
-    let d = not-said (ltb (2 ^ suc k) r) 5 held hashes _ (c .1) in
-    let f = not-said (ltb (length list) (length (positions (schedule s) k r 0))) 4 held hashes _ (d .1) .1 in
+listed-fits : (k s r : ℕ) (list : List ℕ) (count hashes : ℕ) → 0 ∷ count ∷ hashes ∷ [] ≡ positionsMustSay k s r list → Fits count hashes
+unfolding positionsMustSay
+listed-fits k s r list count hashes e =
+    let a = not-said (ltb 20 k) 2 count hashes _ e in
+    let b = not-said (ltb 3 s) 3 count hashes _ (a .1) in
+    let c = not-said (eqb r 0) 5 count hashes _ (b .1) in
+    let d = not-said (ltb (2 ^ suc k) r) 5 count hashes _ (c .1) in
+    let f = not-said (ltb (length list) (length (positions (schedule s) k r 0))) 4 count hashes _ (d .1) .1 in
     let small : k ≤ 20 = ltb-false 20 k (a .0) in
     let known : s ≤ 3 = ltb-false 3 s (b .0) in
     let nonzero : r ≡ 0 → ⊥ = eqb-false r 0 (c .0) in
-    let many : held ≡ length (positions (schedule s) k r 0) = cc in
+    let many : count ≡ length (positions (schedule s) k r 0) = cc in
     let work-is : hashes ≡ work (schedule s) k r = cc in
     record {
       first-fits = omega (arith, many, never-more-than-slots s known k r (ltb-false (2 ^ suc k) r (d .0)), slots-few s k small);
@@ -131,7 +131,7 @@ listed-fits k s r list held hashes e =
     }
 
 pub positions-fit : (k s r : ℕ) (list : List ℕ) (a : PositionsAnswer) (list′ : List ℕ) → Positioned k s r list a list′ → PositionsFit a
-positions-fit k s r list (Listed held hashes) list′ kept = listed-fits k s r list held hashes (kept .says)
+positions-fit k s r list (Listed count hashes) list′ kept = listed-fits k s r list count hashes (kept .says)
 positions-fit k s r list (NoList x) list′ kept = nothing-fits
 
 -- ---- an offer

@@ -35,7 +35,7 @@ roundWord (Tick position hashes) = packed 0 1 position hashes
 roundWord (NoRound refusal) = refusedWord refusal
 
 abbrev pub positionsWord : PositionsAnswer → ℕ
-positionsWord (Listed held hashes) = packed 0 0 held hashes
+positionsWord (Listed count hashes) = packed 0 0 count hashes
 positionsWord (NoList refusal) = refusedWord refusal
 
 abbrev pub enrolWord : EnrolAnswer → ℕ

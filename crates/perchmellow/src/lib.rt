@@ -59,7 +59,7 @@ fn positions_word(answer: PositionsAnswer) -> u64
     ensures { λ w. ⌜ w ≡ positionsWord answer ⌝ }
 {
     match answer {
-        PositionsAnswer::Listed { held, hashes } => packed(0, held, hashes),
+        PositionsAnswer::Listed { count, hashes } => packed(0, count, hashes),
         PositionsAnswer::Refused(why) => refused(why),
     }
 }

@@ -19,7 +19,7 @@ use Rattle.post.specs.declared.Inspected.the-variants.{Refused, Post}
 use Rattle.post.specs.declared.Answer.the-variants.{Done, Refused as NotDone}
 use Rattle.post.specs.Record.{chainOf, widthOf, postBytes, headBytes, anchorOf}
 use Rattle.post.specs.Refused.{passing, numbers, roomFor, enrolJudged}
-use Rattle.post.specs.Promises.{unpaid, enrolSaid, enrolPost, Enrolled}
+use Rattle.post.specs.Promises.{unpaid, enrolMustSay, enrolPost, Enrolled}
 use Rattle.post.specs.Sound.{Enrollable}
 use Rattle.post.specs.Steps.{Puttable}
 
@@ -112,10 +112,10 @@ module _ (head : Head) (anchor post : List ℕ) (ok : Enrollable anchor post hea
 module _ (function k : ℕ) (anchor post : List ℕ) where
   pub enrolled-refused : (refusal : Refusal) → enrolJudged (unpaid function k) anchor post ≡ Refused refusal
       → Enrolled function k anchor post (NotDone refusal) post
-  unfolding enrolSaid enrolPost
+  unfolding enrolMustSay enrolPost
   enrolled-refused refusal e = record { says = rw e refl; leaves = rw e refl }
 
   pub enrolled-done : (h : Head) (post′ : List ℕ) → enrolJudged (unpaid function k) anchor post ≡ Post h
       → post′ ≡ over (postBytes h anchor anchor) post → Enrolled function k anchor post Done post′
-  unfolding enrolSaid enrolPost
+  unfolding enrolMustSay enrolPost
   enrolled-done h post′ e l = record { says = rw e refl; leaves = rw e l }

@@ -21,11 +21,11 @@ use Rattle.post.specs.declared.Inspected.{Inspected}
 use Rattle.post.specs.declared.Inspected.the-variants.{Refused, Post}
 use Rattle.post.specs.declared.OfferAnswer.{OfferAnswer}
 use Rattle.post.specs.declared.OfferAnswer.the-variants.{Credited, Refused as NoCredit}
-use Rattle.post.specs.Record.{chainOf, widthOf, postBytes, anchorOf, heldOf}
+use Rattle.post.specs.Record.{chainOf, widthOf, postBytes, anchorOf, heldValue}
 use Rattle.post.specs.Refused.{inspectOf, gapStrange, ready, offerJudged}
 use Rattle.post.specs.Search.{fewest}
 use Rattle.post.specs.Fewest.{least-found}
-use Rattle.post.specs.Promises.{limitOf, foundBy, credited, offerSaid, offerPost, Offered}
+use Rattle.post.specs.Promises.{limitOf, searchFinds, credited, offerMustSay, offerPost, Offered}
 use Rattle.post.specs.Sound.{Searchable}
 use Rattle.post.specs.Steps.{Puttable, Searched}
 
@@ -63,8 +63,8 @@ module _ (value : List ℕ) (gap : ℕ) (head : Head) (x : Bool) (e : x ≡ gapS
 -- ---- seek
 
 pub sought : (post value : List ℕ) (gap : ℕ) (head : Head) (w n : ℕ) (stepped : List ℕ) → w ≡ widthOf head → n ≡ limitOf gap head → stepped ≡ value
-    → fewest (step (chainOf head)) n (take (8 + w + w - (8 + w)) (drop (8 + w) post)) stepped ≡ foundBy post value gap head
-unfolding foundBy heldOf
+    → fewest (step (chainOf head)) n (take (8 + w + w - (8 + w)) (drop (8 + w) post)) stepped ≡ searchFinds post value gap head
+unfolding searchFinds heldValue
 sought post value gap head w n stepped wide l s =
     let a : 8 + w + w - (8 + w) ≡ widthOf head = omega (arith, wide) in
     let d : 8 + w ≡ 8 + widthOf head = omega (arith, wide) in
@@ -72,13 +72,13 @@ sought post value gap head w n stepped wide l s =
 
 -- ---- credit
 
-module _ (head : Head) (post value : List ℕ) (gap : ℕ) (ok : Searchable post value head) (found : Found) (e : found ≡ foundBy post value gap head) where
+module _ (head : Head) (post value : List ℕ) (gap : ℕ) (ok : Searchable post value head) (found : Found) (e : found ≡ searchFinds post value gap head) where
   pub credit-none : found ≡ Nothing → Searched head post value gap (NoCredit NotTaken) post
   credit-none n = record { says = rw (← e, n) refl; leaves = rw (← e, n) refl }
 
   module _ (g : ℕ) (at : found ≡ At g) where
     pub credit-fits : head .paid + g ≤ 1048576
-    unfolding foundBy fewest
+    unfolding searchFinds fewest
     credit-fits =
         let f = least-found _ (limitOf gap head) g (sym e ∙ at) in
         let p : 2 ^ head .k ≤ 2 ^ 20 = pow-mono (ok .sound .numbered .small) in
@@ -103,7 +103,7 @@ module _ (head : Head) (post value : List ℕ) (gap : ℕ) (ok : Searchable post
 module _ (post value : List ℕ) (gap : ℕ) (seen : Inspected) (inspected : seen ≡ inspectOf post) where
   module _ (refusal : Refusal) (r : seen ≡ Refused refusal) where
     pub offered-refused : Offered post value gap (NoCredit refusal) post
-    unfolding offerSaid offerPost offerJudged
+    unfolding offerMustSay offerPost offerJudged
     offered-refused = record { says = rw (← inspected, r) refl; leaves = rw (← inspected, r) refl }
 
   module _ (h : Head) (p : seen ≡ Post h) (judged : Inspected) (j : judged ≡ ready value gap h) where
@@ -112,7 +112,7 @@ module _ (post value : List ℕ) (gap : ℕ) (seen : Inspected) (inspected : see
     whole = rw (← inspected, p) j
 
     pub judged-refused : (refusal : Refusal) → judged ≡ Refused refusal → Offered post value gap (NoCredit refusal) post
-    unfolding offerSaid offerPost
+    unfolding offerMustSay offerPost
     judged-refused refusal r = record { says = rw (← whole, r) refl; leaves = rw (← whole, r) refl }
 
     pub judged-passed : (head : Head) → judged ≡ Post head → offerJudged post value gap ≡ Post head
@@ -120,5 +120,5 @@ module _ (post value : List ℕ) (gap : ℕ) (seen : Inspected) (inspected : see
 
     pub offered-searched : (head : Head) (r : judged ≡ Post head) (answer : OfferAnswer) (post′ : List ℕ) → Searched head post value gap answer post′
         → Offered post value gap answer post′
-    unfolding offerSaid offerPost
+    unfolding offerMustSay offerPost
     offered-searched head r answer post′ s = record { says = rw (← whole, r) (s .says); leaves = rw (← whole, r) (s .leaves) }

@@ -20,7 +20,7 @@ use Rattle.refusals.specs.declared.Refusal.the-variants.{UnknownFunction, TooMa
 use Rattle.post.specs.declared.Head.{Head}
 use Rattle.post.specs.declared.Inspected.{Inspected}
 use Rattle.post.specs.declared.Inspected.the-variants.{Refused, Post}
-use Rattle.post.specs.Record.{chainOf, widthOf, headBytes, postBytes, marked, headOf, anchorOf, heldOf}
+use Rattle.post.specs.Record.{chainOf, widthOf, headBytes, postBytes, marked, headOf, anchorOf, heldValue}
 use Rattle.post.specs.Refused.{passing, numbers, inspectPaid, inspectOf}
 use Rattle.post.specs.Search.{same}
 use Rattle.post.specs.Steps.{Puttable}
@@ -72,8 +72,8 @@ module _ (post : List ℕ) (head : Head) (p : ℕ) (q : Power (head .k) p) where
 
     module _ (z : head .paid ≡ 0) (w : ℕ) (wide : w ≡ widthOf head) (x : Bool)
         (e : x ≡ same (take (8 + w + w - (8 + w)) (drop (8 + w) post)) (take (8 + w - 8) (drop 8 post))) where
-      read : x ≡ same (heldOf head post) (anchorOf head post)
-      unfolding heldOf anchorOf
+      read : x ≡ same (heldValue head post) (anchorOf head post)
+      unfolding heldValue anchorOf
       read =
           let a : 8 + w + w - (8 + w) ≡ widthOf head = omega (arith, wide) in
           let b : 8 + w - 8 ≡ widthOf head = omega (arith, wide) in

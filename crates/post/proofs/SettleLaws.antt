@@ -19,7 +19,7 @@ use Rattle.post.specs.declared.SettleAnswer.the-variants.{Yes, No, Refus
 use Rattle.post.specs.Record.{chainOf, widthOf}
 use Rattle.post.specs.Refused.{passing, numbers, settleReady, settleJudged}
 use Rattle.post.specs.Search.{same}
-use Rattle.post.specs.Promises.{arrivesOf, settleSaid, Settled}
+use Rattle.post.specs.Promises.{arrivesOf, settleMustSay, Settled}
 
 -- ---- settle_ready
 
@@ -69,14 +69,14 @@ arrived c anchor last paid x stepped s q = q ∙ rw s refl
 
 module _ (function k : ℕ) (anchor last : List ℕ) (paid : ℕ) (judged : Inspected) (j : judged ≡ settleJudged (record { function = function; k = k; paid = paid }) anchor last) where
   pub settled-refused : (refusal : Refusal) → judged ≡ Refused refusal → Settled function k anchor last paid (NoVerdict refusal)
-  unfolding settleSaid
+  unfolding settleMustSay
   settled-refused refusal r = record { says = rw (← j, r) refl }
 
   module _ (h : Head) (r : judged ≡ Post h) (x : Bool) (e : x ≡ arrivesOf (chainOf h) anchor last (h .paid)) where
     pub settled-yes : x ≡ true → Settled function k anchor last paid Yes
-    unfolding settleSaid
+    unfolding settleMustSay
     settled-yes t = record { says = rw (← j, r, ← e, t) refl }
 
     pub settled-no : x ≡ false → Settled function k anchor last paid No
-    unfolding settleSaid
+    unfolding settleMustSay
     settled-no f = record { says = rw (← j, r, ← e, f) refl }

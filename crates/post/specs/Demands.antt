@@ -20,13 +20,13 @@ use Rattle.post.specs.declared.Found.{Found}
 use Rattle.post.specs.declared.Found.the-variants.{At, Nothing}
 use Rattle.post.specs.declared.Inspected.{Inspected}
 use Rattle.post.specs.declared.Inspected.the-variants.{Refused, Post}
-use Rattle.post.specs.Record.{size, chainOf, widthOf, postBytes, headOf, anchorOf, heldOf}
+use Rattle.post.specs.Record.{size, chainOf, widthOf, postBytes, headOf, anchorOf, heldValue}
 use Rattle.post.specs.Refused.{numbers, enrolJudged, inspectOf, offerJudged, settleReady, settleJudged}
 use Rattle.post.specs.Search.{same, fewest, least}
 use Rattle.post.specs.Fewest.{same-eq, eq-same, First, least-found, least-some}
 use Rattle.post.specs.Sound.{Numbered, sound, Searchable, searchable, Enrollable, enrollable}
 use Rattle.post.specs.Kept.{paid-fits, Writable, written-head, written-anchor, written-held, written-passes}
-use Rattle.post.specs.Promises.{unpaid, enrolSaidBy, enrolPostBy, enrolSaid, enrolPost, limitOf, foundBy, credited, foundSaid, foundPost, offerSaidBy, offerPostBy, offerSaid, offerPost, arrivesOf, verdict, settleSaid}
+use Rattle.post.specs.Promises.{unpaid, judgedEnrolSays, judgedEnrolPost, enrolMustSay, enrolPost, limitOf, searchFinds, credited, foundSays, foundPost, judgedOfferSays, judgedOfferPost, offerMustSay, offerPost, arrivesOf, verdict, settleMustSay}
 
 -- ---- an offer that reaches the search
 
@@ -35,29 +35,29 @@ pub record Credit (head : Head) (post value : List ℕ) (gap g : ℕ) : Type 0 w
   pub from : 0 < g
   pub within-gap : g ≤ gap
   pub within-unpaid : head .paid + g ≤ 2 ^ head .k
-  pub leads : chain (step (chainOf head)) value g ≡ heldOf head post
-  pub none-fewer : (j : ℕ) → 0 < j → j < g → chain (step (chainOf head)) value j ≡ heldOf head post → ⊥
+  pub leads : chain (step (chainOf head)) value g ≡ heldValue head post
+  pub none-fewer : (j : ℕ) → 0 < j → j < g → chain (step (chainOf head)) value j ≡ heldValue head post → ⊥
 
 module _ (post value : List ℕ) (gap : ℕ) (head : Head) (reaches : offerJudged post value gap ≡ Post head) where
   abbrev x : ℕ → List ℕ
   x g = chain (step (chainOf head)) value g
 
   abbrev fits : ℕ → Bool
-  fits g = same (x g) (heldOf head post)
+  fits g = same (x g) (heldValue head post)
 
   within : head .paid ≤ 2 ^ head .k
   within = searchable post value gap head reaches .1 .sound .within
 
-  says : offerSaid post value gap ≡ foundSaid (foundBy post value gap head)
-  unfolding offerSaid
+  says : offerMustSay post value gap ≡ foundSays (searchFinds post value gap head)
+  unfolding offerMustSay
   says = rw reaches refl
 
-  leaves : offerPost post value gap ≡ foundPost head post value (foundBy post value gap head)
+  leaves : offerPost post value gap ≡ foundPost head post value (searchFinds post value gap head)
   unfolding offerPost
   leaves = rw reaches refl
 
-  search : foundBy post value gap head ≡ least (limitOf gap head) fits
-  unfolding foundBy fewest
+  search : searchFinds post value gap head ≡ least (limitOf gap head) fits
+  unfolding searchFinds fewest
   search = refl
 
   credit-first : (g : ℕ) → First fits (limitOf gap head) g → Credit head post value gap g
@@ -66,69 +66,69 @@ module _ (post value : List ℕ) (gap : ℕ) (head : Head) (reaches : offerJudge
         from = f .from;
         within-gap = omega (arith, f .upto);
         within-unpaid = omega (arith, f .upto, within);
-        leads = same-eq (x g) (heldOf head post) (f .fits);
-        none-fewer = λ j a b e. true≢false (sym (eq-same (x j) (heldOf head post) e) ∙ f .none-fewer j a b);
+        leads = same-eq (x g) (heldValue head post) (f .fits);
+        none-fewer = λ j a b e. true≢false (sym (eq-same (x j) (heldValue head post) e) ∙ f .none-fewer j a b);
       }
 
-  found-credit : (g : ℕ) → foundBy post value gap head ≡ At g → Credit head post value gap g
+  found-credit : (g : ℕ) → searchFinds post value gap head ≡ At g → Credit head post value gap g
   found-credit g q = credit-first g (least-found fits (limitOf gap head) g (sym search ∙ q))
 
-  credited-found : (g : ℕ) → offerSaid post value gap ≡ 0 ∷ g ∷ [] → foundBy post value gap head ≡ At g
-  credited-found g e = go (foundBy post value gap head) refl (sym says ∙ e)
+  credited-found : (g : ℕ) → offerMustSay post value gap ≡ 0 ∷ g ∷ [] → searchFinds post value gap head ≡ At g
+  credited-found g e = go (searchFinds post value gap head) refl (sym says ∙ e)
     where
-      go : (seen : Found) → foundBy post value gap head ≡ seen → foundSaid seen ≡ 0 ∷ g ∷ [] → foundBy post value gap head ≡ At g
+      go : (seen : Found) → searchFinds post value gap head ≡ seen → foundSays seen ≡ 0 ∷ g ∷ [] → searchFinds post value gap head ≡ At g
       go Nothing q r = absurd (not-refused NotTaken (g ∷ []) r)
       go (At h) q r = let d : h ≡ g = cc in q ∙ ap At d
 
   -- the credit is the fewest steps that lead to the value held
-  pub credit-is-fewest : (g : ℕ) → offerSaid post value gap ≡ 0 ∷ g ∷ [] → Credit head post value gap g
+  pub credit-is-fewest : (g : ℕ) → offerMustSay post value gap ≡ 0 ∷ g ∷ [] → Credit head post value gap g
   credit-is-fewest g e = found-credit g (credited-found g e)
 
   -- the record after a credit
-  pub credit-leaves : (g : ℕ) → offerSaid post value gap ≡ 0 ∷ g ∷ []
+  pub credit-leaves : (g : ℕ) → offerMustSay post value gap ≡ 0 ∷ g ∷ []
       → offerPost post value gap ≡ over (postBytes (credited g head) (anchorOf head post) value) post
   credit-leaves g e = leaves ∙ ap (foundPost head post value) (credited-found g e)
 
   -- where some g from 1 to the smaller of G and the unpaid ticks leads there, the offer is taken, and the credit is no more
-  pub taken-where-some : (g : ℕ) → 0 < g → g ≤ gap → head .paid + g ≤ 2 ^ head .k → chain (step (chainOf head)) value g ≡ heldOf head post
-      → (credit : ℕ) × (offerSaid post value gap ≡ 0 ∷ credit ∷ []) × (credit ≤ g)
+  pub taken-where-some : (g : ℕ) → 0 < g → g ≤ gap → head .paid + g ≤ 2 ^ head .k → chain (step (chainOf head)) value g ≡ heldValue head post
+      → (credit : ℕ) × (offerMustSay post value gap ≡ 0 ∷ credit ∷ []) × (credit ≤ g)
   taken-where-some g a b d e =
-      let s = least-some fits (limitOf gap head) g a (omega arith) (eq-same (x g) (heldOf head post) e) in
-      (s .0, says ∙ ap foundSaid (search ∙ s .1), s .2)
+      let s = least-some fits (limitOf gap head) g a (omega arith) (eq-same (x g) (heldValue head post) e) in
+      (s .0, says ∙ ap foundSays (search ∙ s .1), s .2)
 
   -- where none does, it is refused, and nothing is written
-  pub refused-where-none : ((g : ℕ) → 0 < g → g ≤ gap → head .paid + g ≤ 2 ^ head .k → chain (step (chainOf head)) value g ≡ heldOf head post → ⊥)
-      → (offerSaid post value gap ≡ saidOf NotTaken) × (offerPost post value gap ≡ post)
-  refused-where-none n = go (foundBy post value gap head) refl
+  pub refused-where-none : ((g : ℕ) → 0 < g → g ≤ gap → head .paid + g ≤ 2 ^ head .k → chain (step (chainOf head)) value g ≡ heldValue head post → ⊥)
+      → (offerMustSay post value gap ≡ saidOf NotTaken) × (offerPost post value gap ≡ post)
+  refused-where-none n = go (searchFinds post value gap head) refl
     where
-      go : (seen : Found) → foundBy post value gap head ≡ seen → (offerSaid post value gap ≡ saidOf NotTaken) × (offerPost post value gap ≡ post)
-      go Nothing q = (says ∙ ap foundSaid q, leaves ∙ ap (foundPost head post value) q)
+      go : (seen : Found) → searchFinds post value gap head ≡ seen → (offerMustSay post value gap ≡ saidOf NotTaken) × (offerPost post value gap ≡ post)
+      go Nothing q = (says ∙ ap foundSays q, leaves ∙ ap (foundPost head post value) q)
       go (At h) q =
           let f = found-credit h q in
           absurd (n h (f .from) (f .within-gap) (f .within-unpaid) (f .leads))
 
 -- a credit is said only by an offer that reaches the search, on a record whose head is the one read
-pub credit-reached : (post value : List ℕ) (gap g : ℕ) → offerSaid post value gap ≡ 0 ∷ g ∷ [] → offerJudged post value gap ≡ Post (headOf post)
-unfolding offerSaid
+pub credit-reached : (post value : List ℕ) (gap g : ℕ) → offerMustSay post value gap ≡ 0 ∷ g ∷ [] → offerJudged post value gap ≡ Post (headOf post)
+unfolding offerMustSay
 credit-reached post value gap g e = go (offerJudged post value gap) refl e
   where
-    go : (seen : Inspected) → offerJudged post value gap ≡ seen → offerSaidBy post value gap seen ≡ 0 ∷ g ∷ [] → offerJudged post value gap ≡ Post (headOf post)
+    go : (seen : Inspected) → offerJudged post value gap ≡ seen → judgedOfferSays post value gap seen ≡ 0 ∷ g ∷ [] → offerJudged post value gap ≡ Post (headOf post)
     go (Refused r) q s = absurd (not-refused r (g ∷ []) s)
     go (Post h) q s = q ∙ ap Post (sym (sound post h (searchable post value gap h q .0) .0))
 
 -- ---- a refusal changes nothing
 
-pub refused-leaves : (post value : List ℕ) (gap : ℕ) (refusal : Refusal) → offerSaid post value gap ≡ saidOf refusal → offerPost post value gap ≡ post
-unfolding offerSaid offerPost
+pub refused-leaves : (post value : List ℕ) (gap : ℕ) (refusal : Refusal) → offerMustSay post value gap ≡ saidOf refusal → offerPost post value gap ≡ post
+unfolding offerMustSay offerPost
 refused-leaves post value gap refusal e = go (offerJudged post value gap) e
   where
-    found : (head : Head) (seen : Found) → foundSaid seen ≡ saidOf refusal → foundPost head post value seen ≡ post
+    found : (head : Head) (seen : Found) → foundSays seen ≡ saidOf refusal → foundPost head post value seen ≡ post
     found head Nothing s = refl
     found head (At g) s = absurd (not-refused refusal (g ∷ []) (sym s))
 
-    go : (seen : Inspected) → offerSaidBy post value gap seen ≡ saidOf refusal → offerPostBy post value gap seen ≡ post
+    go : (seen : Inspected) → judgedOfferSays post value gap seen ≡ saidOf refusal → judgedOfferPost post value gap seen ≡ post
     go (Refused r) s = refl
-    go (Post h) s = found h (foundBy post value gap h) s
+    go (Post h) s = found h (searchFinds post value gap h) s
 
 -- ---- the fields of a record have the chain's width
 
@@ -137,15 +137,15 @@ unfolding anchorOf
 anchor-width head post l =
     length-take-le (widthOf head) (drop 8 post) (omega (arith, length-drop 8 post, width-small (chainOf head)))
 
-held-width : (head : Head) (post : List ℕ) → size ≤ length post → length (heldOf head post) ≡ widthOf head
-unfolding heldOf
+held-width : (head : Head) (post : List ℕ) → size ≤ length post → length (heldValue head post) ≡ widthOf head
+unfolding heldValue
 held-width head post l =
     let w = widthOf head in
     length-take-le w (drop (8 + w) post) (omega (arith, length-drop (8 + w) post, width-small (chainOf head)))
 
 -- ---- a record after a credit
 
--- what a credit writes is as document 01 lays it out, with g more paid and no more than 2^k
+-- what a credit writes is as docs/RULES.md lays it out, with g more paid and no more than 2^k
 module _ (post value : List ℕ) (gap : ℕ) (head : Head) (reaches : offerJudged post value gap ≡ Post head) (g : ℕ) (credit : Credit head post value gap g) where
   asked : Searchable post value head
   asked = searchable post value gap head reaches .1
@@ -169,7 +169,7 @@ module _ (post value : List ℕ) (gap : ℕ) (head : Head) (reaches : offerJudge
 
 -- ---- paid never passes 2^k, and never wraps: what is read after a credit of g is g more than before
 
-pub paid-adds-up : (post value : List ℕ) (gap g : ℕ) → offerSaid post value gap ≡ 0 ∷ g ∷ []
+pub paid-adds-up : (post value : List ℕ) (gap g : ℕ) → offerMustSay post value gap ≡ 0 ∷ g ∷ []
     → (headOf (offerPost post value gap) ≡ credited g (headOf post)) × (headOf post .paid + g ≤ 2 ^ headOf post .k)
 paid-adds-up post value gap g e =
     let head = headOf post in
@@ -182,10 +182,10 @@ paid-adds-up post value gap g e =
 
 -- ---- what a post believes is right
 
--- a record as document 01 lays it out, in which as many steps as are paid lead from the value held to the anchor
+-- a record as docs/RULES.md lays it out, in which as many steps as are paid lead from the value held to the anchor
 pub record Right (post : List ℕ) : Type 0 where
   pub formed : inspectOf post ≡ Post (headOf post)
-  pub holds : chain (step (chainOf (headOf post))) (heldOf (headOf post) post) (headOf post .paid) ≡ anchorOf (headOf post) post
+  pub holds : chain (step (chainOf (headOf post))) (heldValue (headOf post) post) (headOf post .paid) ≡ anchorOf (headOf post) post
 
 module _ (head : Head) (anchor held post : List ℕ) (w : Writable head anchor held post) (passes : inspectOf (over (postBytes head anchor held) post) ≡ Post head) where
   right-written : chain (step (chainOf head)) held (head .paid) ≡ anchor → Right (over (postBytes head anchor held) post)
@@ -202,12 +202,12 @@ module _ (function k : ℕ) (anchor post : List ℕ) where
   begun = over (postBytes (unpaid function k) anchor anchor) post
 
   -- an enrol that says 0 has refused nothing, and has written the record
-  pub enrol-done : enrolSaid function k anchor post ≡ 0 ∷ [] → Enrollable anchor post (unpaid function k) × (enrolPost function k anchor post ≡ begun)
-  unfolding enrolSaid enrolPost
+  pub enrol-done : enrolMustSay function k anchor post ≡ 0 ∷ [] → Enrollable anchor post (unpaid function k) × (enrolPost function k anchor post ≡ begun)
+  unfolding enrolMustSay enrolPost
   enrol-done e = go (enrolJudged (unpaid function k) anchor post) refl e
     where
-      go : (seen : Inspected) → enrolJudged (unpaid function k) anchor post ≡ seen → enrolSaidBy seen ≡ 0 ∷ []
-          → Enrollable anchor post (unpaid function k) × (enrolPostBy anchor post seen ≡ begun)
+      go : (seen : Inspected) → enrolJudged (unpaid function k) anchor post ≡ seen → judgedEnrolSays seen ≡ 0 ∷ []
+          → Enrollable anchor post (unpaid function k) × (judgedEnrolPost anchor post seen ≡ begun)
       go (Refused r) q s = absurd (not-refused r [] s)
       go (Post h) q s =
           let d = enrollable (unpaid function k) anchor post h q in
@@ -220,7 +220,7 @@ module _ (function k : ℕ) (anchor post : List ℕ) where
     pub enrol-passes : inspectOf begun ≡ Post (unpaid function k)
     enrol-passes = written-passes (unpaid function k) anchor anchor post enrol-writable (ok .numbered) (omega arith) (λ z. refl)
 
-  pub enrol-right : enrolSaid function k anchor post ≡ 0 ∷ [] → Right (enrolPost function k anchor post)
+  pub enrol-right : enrolMustSay function k anchor post ≡ 0 ∷ [] → Right (enrolPost function k anchor post)
   unfolding chain
   enrol-right e =
       let d = enrol-done e in
@@ -231,20 +231,20 @@ pub offer-right : (post value : List ℕ) (gap : ℕ) → Right post → Right (
 unfolding offerPost
 offer-right post value gap r = go (offerJudged post value gap) refl
   where
-    found : (h : Head) → offerJudged post value gap ≡ Post h → (seen : Found) → foundBy post value gap h ≡ seen → Right (foundPost h post value seen)
+    found : (h : Head) → offerJudged post value gap ≡ Post h → (seen : Found) → searchFinds post value gap h ≡ seen → Right (foundPost h post value seen)
     found h q Nothing f = r
     found h q (At g) f =
         let c = found-credit post value gap h q g f in
         let same : headOf post ≡ h = sound post h (searchable post value gap h q .0) .0 in
-        let held : chain (step (chainOf h)) (heldOf h post) (h .paid) ≡ anchorOf h post = rw same at (r .holds) in
+        let held : chain (step (chainOf h)) (heldValue h post) (h .paid) ≡ anchorOf h post = rw same at (r .holds) in
         let sum : h .paid + g ≡ g + h .paid = omega arith in
         let e : chain (step (chainOf h)) value (h .paid + g) ≡ anchorOf h post =
         rw sum (chain-add (step (chainOf h)) value g (h .paid) ∙ rw (c .leads) held) in
         right-written (credited g h) (anchorOf h post) value post (credit-writable post value gap h q g c) (credit-passes post value gap h q g c) e
 
-    go : (seen : Inspected) → offerJudged post value gap ≡ seen → Right (offerPostBy post value gap seen)
+    go : (seen : Inspected) → offerJudged post value gap ≡ seen → Right (judgedOfferPost post value gap seen)
     go (Refused x) q = r
-    go (Post h) q = found h q (foundBy post value gap h) refl
+    go (Post h) q = found h q (searchFinds post value gap h) refl
 
 -- ---- settle says yes exactly when f applied as often as is paid to the last value gives the anchor
 
@@ -256,14 +256,14 @@ module _ (function k : ℕ) (anchor last : List ℕ) (paid : ℕ) where
   reached = chain (step (chainOf account)) last paid
 
   module _ (passes : settleJudged account anchor last ≡ Post account) where
-    verdict-said : settleSaid function k anchor last paid ≡ verdict (same reached anchor)
-    unfolding settleSaid arrivesOf
+    verdict-said : settleMustSay function k anchor last paid ≡ verdict (same reached anchor)
+    unfolding settleMustSay arrivesOf
     verdict-said = rw passes refl
 
-    pub settle-yes : reached ≡ anchor → settleSaid function k anchor last paid ≡ 0 ∷ 1 ∷ []
+    pub settle-yes : reached ≡ anchor → settleMustSay function k anchor last paid ≡ 0 ∷ 1 ∷ []
     settle-yes e = verdict-said ∙ ap verdict (eq-same reached anchor e)
 
-    pub settle-no : (reached ≡ anchor → ⊥) → settleSaid function k anchor last paid ≡ 0 ∷ 0 ∷ []
+    pub settle-no : (reached ≡ anchor → ⊥) → settleMustSay function k anchor last paid ≡ 0 ∷ 0 ∷ []
     settle-no n = verdict-said ∙ go (same reached anchor) refl
       where
         go : (b : Bool) → same reached anchor ≡ b → verdict b ≡ 0 ∷ 0 ∷ []
@@ -279,10 +279,10 @@ module _ (function k : ℕ) (anchor last : List ℕ) (paid : ℕ) where
 
 -- so settle says yes for the value that a post holds and what it has paid
 pub settle-right : (post : List ℕ) → Right post
-    → settleSaid (headOf post .function) (headOf post .k) (anchorOf (headOf post) post) (heldOf (headOf post) post) (headOf post .paid) ≡ 0 ∷ 1 ∷ []
+    → settleMustSay (headOf post .function) (headOf post .k) (anchorOf (headOf post) post) (heldValue (headOf post) post) (headOf post .paid) ≡ 0 ∷ 1 ∷ []
 settle-right post r =
     let h = headOf post in
     let s = sound post h (r .formed) .1 in
-    settle-yes (h .function) (h .k) (anchorOf h post) (heldOf h post) (h .paid)
-    (settle-passes (h .function) (h .k) (anchorOf h post) (heldOf h post) (h .paid) (s .numbered) (anchor-width h post (s .long)) (held-width h post (s .long)) (s .within))
+    settle-yes (h .function) (h .k) (anchorOf h post) (heldValue h post) (h .paid)
+    (settle-passes (h .function) (h .k) (anchorOf h post) (heldValue h post) (h .paid) (s .numbered) (anchor-width h post (s .long)) (held-width h post (s .long)) (s .within))
     (r .holds)

@@ -15,7 +15,7 @@ use Rattle.lists.specs.Writing.{over, over-length}
 use Rattle.oneway.specs.Laws.{width-small}
 use Rattle.post.specs.declared.Head.{Head}
 use Rattle.post.specs.declared.Inspected.the-variants.{Post}
-use Rattle.post.specs.Record.{size, chainOf, widthOf, headBytes, postBytes, marked, headOf, anchorOf, heldOf}
+use Rattle.post.specs.Record.{size, chainOf, widthOf, headBytes, postBytes, marked, headOf, anchorOf, heldValue}
 use Rattle.post.specs.Refused.{numbers, inspectPaid, inspectOf}
 use Rattle.post.specs.Sound.{Numbered}
 use Rattle.post.specs.Search.{same}
@@ -64,8 +64,8 @@ module _ (head : Head) (anchor held post : List ℕ) (w : Writable head anchor h
   unfolding anchorOf
   written-anchor = rw behind-head (take-at anchor (held ++ drop (length (postBytes head anchor held)) post) (widthOf head) (w .anchored))
 
-  pub written-held : heldOf head written ≡ held
-  unfolding heldOf
+  pub written-held : heldValue head written ≡ held
+  unfolding heldValue
   written-held =
       let rest = drop (length (postBytes head anchor held)) post in
       rw (← drop-drop (widthOf head) 8 written, behind-head, drop-at anchor (held ++ rest) (widthOf head) (w .anchored))

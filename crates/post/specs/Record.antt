@@ -1,4 +1,4 @@
--- The post record: document 01, "Records". `postBytes` is what a record holds, and `headOf`, `anchorOf` and `heldOf` are what is read
+-- The post record: docs/RULES.md, "Records". `postBytes` is what a record holds, and `headOf`, `anchorOf` and `heldValue` are what is read
 -- from one. The anchor and the value held go by the width of the chain's values. Assumes nothing.
 use mathlib.Core.Bool.{Bool, _&&_}
 use mathlib.Core.List.{List, [], _∷_, _++_}
@@ -45,5 +45,5 @@ headOf post = record { function = getD post 2 0; k = getD post 3 0; paid = numbe
 unfoldable pub anchorOf : Head → List ℕ → List ℕ
 anchorOf head post = take (widthOf head) (drop 8 post)
 
-unfoldable pub heldOf : Head → List ℕ → List ℕ
-heldOf head post = take (widthOf head) (drop (8 + widthOf head) post)
+unfoldable pub heldValue : Head → List ℕ → List ℕ
+heldValue head post = take (widthOf head) (drop (8 + widthOf head) post)

@@ -1,4 +1,4 @@
--- What each call refuses, in the order of document 01, "Numbers said at the counter". A refusal comes from the first test that holds;
+-- What each call refuses, in the order of docs/RULES.md, "Numbers said at the counter". A refusal comes from the first test that holds;
 -- what passes them all is a post's head. Assumes nothing.
 use mathlib.Core.Bool.{Bool, cond, _&&_, _||_, not}
 use mathlib.Core.List.{List}
@@ -10,7 +10,7 @@ use Rattle.refusals.specs.declared.Refusal.the-variants.{UnknownFunction, TooMa
 use Rattle.post.specs.declared.Head.{Head}
 use Rattle.post.specs.declared.Inspected.{Inspected}
 use Rattle.post.specs.declared.Inspected.the-variants.{Refused, Post}
-use Rattle.post.specs.Record.{size, widthOf, marked, headOf, anchorOf, heldOf}
+use Rattle.post.specs.Record.{size, widthOf, marked, headOf, anchorOf, heldValue}
 use Rattle.post.specs.Search.{same}
 
 -- what has passed goes on to the next tests
@@ -40,7 +40,7 @@ enrolJudged head anchor post = passing (numbers head) (roomFor anchor post)
 unfoldable pub inspectPaid : List ℕ → Head → Inspected
 inspectPaid post head =
     cond (ltb (2 ^ head .k) (head .paid)) (Refused BadRecord)
-    (cond (eqb (head .paid) 0 && not (same (heldOf head post) (anchorOf head post))) (Refused BadRecord)
+    (cond (eqb (head .paid) 0 && not (same (heldValue head post) (anchorOf head post))) (Refused BadRecord)
     (Post head))
 
 -- a post's record: shorter than 40 bytes 4; mark 5; 1; 2; and on

@@ -17,11 +17,11 @@ use Rattle.refusals.specs.Numbers.{saidOf}
 use Rattle.refusals.specs.declared.Refusal.the-variants.{Spent, NotTaken}
 use Rattle.post.specs.declared.Head.{Head}
 use Rattle.post.specs.declared.Inspected.the-variants.{Post}
-use Rattle.post.specs.Record.{size, headOf, anchorOf, heldOf}
+use Rattle.post.specs.Record.{size, headOf, anchorOf, heldValue}
 use Rattle.post.specs.Refused.{numbers, roomFor, enrolJudged, inspectOf, gapStrange, ready, offerJudged}
 use Rattle.post.specs.Sound.{Numbered, sound}
 use Rattle.post.specs.Kept.{written-anchor, written-held}
-use Rattle.post.specs.Promises.{unpaid, enrolSaid, enrolPost, credited, offerSaid, offerPost, settleSaid}
+use Rattle.post.specs.Promises.{unpaid, enrolMustSay, enrolPost, credited, offerMustSay, offerPost, settleMustSay}
 use Rattle.post.specs.Demands.{credit-is-fewest, credit-leaves, taken-where-some, refused-where-none, credit-writable, credit-passes, enrol-done, enrol-writable, enrol-passes, settle-yes, settle-passes}
 
 -- a gap limit from 1 to 64
@@ -41,7 +41,7 @@ module _ (c : Chain) (k : ℕ) (seed : List ℕ) (is-known : known (c .function)
     pub whole : paid + n ≡ 2 ^ k
     pub formed : inspectOf post ≡ Post (headAt paid)
     pub anchored : anchorOf (headAt paid) post ≡ x (2 ^ k)
-    pub holds : heldOf (headAt paid) post ≡ x n
+    pub holds : heldValue (headAt paid) post ≡ x n
 
   -- d steps from x_n lead to x_(n + d)
   steps-on : (n d : ℕ) → chain (step c) (x n) d ≡ x (n + d)
@@ -63,12 +63,12 @@ module _ (c : Chain) (k : ℕ) (seed : List ℕ) (is-known : known (c .function)
     reaches = judged post paid (n + d) n gap s (omega arith) a
 
     -- with d - 1 ticks missed, d at most G, the next tick is taken, and the credit is at most d
-    pub missed-taken : d ≤ gap → (credit : ℕ) × (offerSaid post (x n) gap ≡ 0 ∷ credit ∷ []) × (credit ≤ d)
+    pub missed-taken : d ≤ gap → (credit : ℕ) × (offerMustSay post (x n) gap ≡ 0 ∷ credit ∷ []) × (credit ≤ d)
     missed-taken h =
         taken-where-some post (x n) gap (headAt paid) reaches d p h (omega (arith, s .whole)) (steps-on n d ∙ sym (s .holds))
 
     -- and exactly d where no fewer steps reach the value held
-    pub missed-exactly : d ≤ gap → ((j : ℕ) → 0 < j → j < d → chain (step c) (x n) j ≡ x (n + d) → ⊥) → offerSaid post (x n) gap ≡ 0 ∷ d ∷ []
+    pub missed-exactly : d ≤ gap → ((j : ℕ) → 0 < j → j < d → chain (step c) (x n) j ≡ x (n + d) → ⊥) → offerMustSay post (x n) gap ≡ 0 ∷ d ∷ []
     missed-exactly h none =
         let t = missed-taken h in
         let f = credit-is-fewest post (x n) gap (headAt paid) reaches (t .0) (t .1) in
@@ -77,7 +77,7 @@ module _ (c : Chain) (k : ℕ) (seed : List ℕ) (is-known : known (c .function)
         t .1 ∙ ap (λ (g : ℕ). 0 ∷ g ∷ []) e
 
     -- where d is credited, the post stands at x_n
-    pub missed-stands : offerSaid post (x n) gap ≡ 0 ∷ d ∷ [] → Standing (offerPost post (x n) gap) (paid + d) n
+    pub missed-stands : offerMustSay post (x n) gap ≡ 0 ∷ d ∷ [] → Standing (offerPost post (x n) gap) (paid + d) n
     missed-stands e =
         let h = headAt paid in
         let f = credit-is-fewest post (x n) gap h reaches d e in
@@ -92,7 +92,7 @@ module _ (c : Chain) (k : ℕ) (seed : List ℕ) (is-known : known (c .function)
 
   -- with one tick missed and G = 1 it is refused, unless one step happens to reach the value held
   pub missed-refused : (post : List ℕ) (paid n : ℕ) → Standing post paid (n + 2) → (step c (x n) ≡ x (n + 2) → ⊥)
-      → (offerSaid post (x n) 1 ≡ saidOf NotTaken) × (offerPost post (x n) 1 ≡ post)
+      → (offerMustSay post (x n) 1 ≡ saidOf NotTaken) × (offerPost post (x n) 1 ≡ post)
   unfolding chain
   missed-refused post paid n s none =
       refused-where-none post (x n) 1 (headAt paid)
@@ -104,7 +104,7 @@ module _ (c : Chain) (k : ℕ) (seed : List ℕ) (is-known : known (c .function)
     one-more : Standing post paid (n + 1)
     one-more = let e : suc n ≡ n + 1 = omega arith in rw e at s
 
-    pub next-credited : offerSaid post (x n) gap ≡ 0 ∷ 1 ∷ []
+    pub next-credited : offerMustSay post (x n) gap ≡ 0 ∷ 1 ∷ []
     next-credited = missed-exactly post paid n 1 gap one-more (omega arith) a (omega (arith, a .some)) (λ j f l e. omega arith)
 
     pub next-stands : Standing (offerPost post (x n) gap) (suc paid) n
@@ -123,8 +123,8 @@ module _ (c : Chain) (k : ℕ) (seed : List ℕ) (is-known : known (c .function)
     numbered : Numbered (headAt 0)
     numbered = record { known = is-known; small = small }
 
-    pub ride-enrolled : enrolSaid (c .function) k (x (2 ^ k)) post ≡ 0 ∷ []
-    unfolding enrolSaid enrolJudged numbers roomFor
+    pub ride-enrolled : enrolMustSay (c .function) k (x (2 ^ k)) post ≡ 0 ∷ []
+    unfolding enrolMustSay enrolJudged numbers roomFor
     ride-enrolled =
         rw (is-known, le-ltb 20 k small, eq-eqb (length (x (2 ^ k))) (width c) (chain-length c seed wide (2 ^ k)), le-ltb (length post) size long) refl
 
@@ -147,7 +147,7 @@ module _ (c : Chain) (k : ℕ) (seed : List ℕ) (is-known : known (c .function)
         rw q (next-stands (after m) m n (gaps m) (ride-stands m (suc n) (omega arith)) (allowed m))
 
     -- every tick is credited exactly 1
-    pub ride-credits : (m n : ℕ) → m + suc n ≡ 2 ^ k → offerSaid (after m) (x n) (gaps m) ≡ 0 ∷ 1 ∷ []
+    pub ride-credits : (m n : ℕ) → m + suc n ≡ 2 ^ k → offerMustSay (after m) (x n) (gaps m) ≡ 0 ∷ 1 ∷ []
     ride-credits m n e = next-credited (after m) m n (gaps m) (ride-stands m (suc n) e) (allowed m)
 
     ended : Standing (after (2 ^ k)) (2 ^ k) 0
@@ -158,12 +158,12 @@ module _ (c : Chain) (k : ℕ) (seed : List ℕ) (is-known : known (c .function)
     ride-paid = ap (λ (h : Head). h .paid) (sound (after (2 ^ k)) (headAt (2 ^ k)) (ended .formed) .0)
 
     -- and whatever is offered, it is spent
-    pub ride-spent : (value : List ℕ) (gap : ℕ) → Allowed gap → offerSaid (after (2 ^ k)) value gap ≡ saidOf Spent
-    unfolding offerSaid offerJudged ready
+    pub ride-spent : (value : List ℕ) (gap : ℕ) → Allowed gap → offerMustSay (after (2 ^ k)) value gap ≡ saidOf Spent
+    unfolding offerMustSay offerJudged ready
     ride-spent value gap a = rw (ended .formed, gap-fine gap a, eq-eqb (2 ^ k) (2 ^ k) refl) refl
 
   -- settle says yes for the last tick and 2^k
-  pub ride-settles : settleSaid (c .function) k (x (2 ^ k)) (x 0) (2 ^ k) ≡ 0 ∷ 1 ∷ []
+  pub ride-settles : settleMustSay (c .function) k (x (2 ^ k)) (x 0) (2 ^ k) ≡ 0 ∷ 1 ∷ []
   unfolding chain
   ride-settles =
       settle-yes (c .function) k (x (2 ^ k)) (x 0) (2 ^ k)

@@ -14,7 +14,7 @@ use Rattle.refusals.specs.declared.Refusal.the-variants.{UnknownFunction, TooMa
 use Rattle.post.specs.declared.Head.{Head}
 use Rattle.post.specs.declared.Inspected.{Inspected}
 use Rattle.post.specs.declared.Inspected.the-variants.{Refused, Post}
-use Rattle.post.specs.Record.{size, chainOf, widthOf, marked, headOf, anchorOf, heldOf}
+use Rattle.post.specs.Record.{size, chainOf, widthOf, marked, headOf, anchorOf, heldValue}
 use Rattle.post.specs.Refused.{passing, numbers, roomFor, enrolJudged, inspectPaid, inspectOf, gapStrange, ready, offerJudged, settleReady, settleJudged}
 use Rattle.post.specs.Search.{same}
 
@@ -93,7 +93,7 @@ enrollable g anchor post h e =
           }),
     )
 
--- ---- a record that passes inspection: its head is the one read, and it is as document 01 lays it out
+-- ---- a record that passes inspection: its head is the one read, and it is as docs/RULES.md lays it out
 
 pub record Sound (post : List ℕ) (head : Head) : Type 0 where
   pub numbered : Numbered head
@@ -108,7 +108,7 @@ sound post h e =
     let b = passed-if (marked post) BadRecord _ h (a .1) in
     let c = passed-on g (inspectPaid post) h (b .1) in
     let d = passed-by (ltb (2 ^ g .k) (g .paid)) BadRecord _ h (c .1) in
-    let f = passed-by (eqb (g .paid) 0 && not (same (heldOf g post) (anchorOf g post))) BadRecord (Post g) h (d .1) in
+    let f = passed-by (eqb (g .paid) 0 && not (same (heldValue g post) (anchorOf g post))) BadRecord (Post g) h (d .1) in
     let i : Post g ≡ Post h = f .1 in
     let alike : g ≡ h = cc in (
       alike,

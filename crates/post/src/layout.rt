@@ -1,4 +1,4 @@
-// How a post's record is read and written: document 01, "Records".
+// How a post's record is read and written: docs/RULES.md, "Records".
 ghost use mathlib.Core.Path.{_≡_};
 ghost use Prim.Native.Nat.{_≤_};
 ghost use lib.ListN.{length};

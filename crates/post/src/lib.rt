@@ -6,7 +6,7 @@ ghost use Rattle.lists.specs.Writing.{over};
 ghost use Rattle.post.specs.Record.{postBytes};
 ghost use Rattle.post.specs.Refused.{roomFor, enrolJudged, gapStrange, settleJudged, settleReady};
 ghost use Rattle.post.specs.Refused.{ready as readyOf};
-ghost use Rattle.post.specs.Promises.{limitOf, foundBy, arrivesOf, Enrolled, Offered, Settled};
+ghost use Rattle.post.specs.Promises.{limitOf, searchFinds, arrivesOf, Enrolled, Offered, Settled};
 ghost use Rattle.post.specs.Sound.{Enrollable, Searchable, Walkable};
 ghost use Rattle.post.specs.Steps.{Searched};
 use oneway::Chain;
@@ -160,7 +160,7 @@ fn limit(head: Head, gap: u32) -> u32
 // The search of an offer, on a copy of the value.
 fn seek(head: Head, post: &[u8], value: &[u8], gap: u32) -> Found
     requires { ⌜ Searchable (now post) (now value) head ⌝ }
-    ensures { λ r. ⌜ r ≡ foundBy (now (post .entry)) (now (value .entry)) gap head ⌝ }
+    ensures { λ r. ⌜ r ≡ searchFinds (now (post .entry)) (now (value .entry)) gap head ⌝ }
 {
     let chain = Chain {
         function: head.function,

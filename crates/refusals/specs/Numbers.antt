@@ -1,4 +1,4 @@
--- Document 01's table "Numbers said at the counter": each refusal by its meaning, and its number. Assumes nothing.
+-- The table of docs/RULES.md, "Numbers said at the counter": each refusal by its meaning, and its number. Assumes nothing.
 use mathlib.Core.Path.{_≡_, refl, sym, ap, _∙_}
 use mathlib.Core.Bool.{false, true≢false}
 use mathlib.Core.List.{List, [], _∷_}

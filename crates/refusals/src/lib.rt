@@ -24,7 +24,7 @@ pub enum Refusal {
     NotTaken,
 }
 
-// The number that the counter says for a refusal, from 1 up; document 01 has the table.
+// The number that the counter says for a refusal, from 1 up; docs/RULES.md has the table.
 pub fn number(refusal: Refusal) -> u32
     ensures { λ n. ⌜ n ≡ numberOf refusal ⌝ }
 {

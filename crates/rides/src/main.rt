@@ -96,11 +96,11 @@ fn count_held(ride: Ride, k: u32, schedule: u32, round: u32) -> Turn {
     let mut list = [0u32; LIST];
     match pebbling::positions(k, schedule, round, &mut list) {
         PositionsAnswer::Refused(why) => over(b"position list", why),
-        PositionsAnswer::Listed { held, hashes: _ } => Turn::On(Ride {
+        PositionsAnswer::Listed { count, hashes: _ } => Turn::On(Ride {
             credited: ride.credited,
             hashes: ride.hashes,
             most: ride.most,
-            held: larger(ride.held, held),
+            held: larger(ride.held, count),
         }),
     }
 }

@@ -17,7 +17,7 @@ use Rattle.card.specs.Promises.{roundOut, anchorOut}
 use Rattle.card.specs.Run.{Given, after}
 use Rattle.card.specs.Demands.{paying-round-pays, anchor-is-the-last}
 use Rattle.post.specs.Record.{size, headOf}
-use Rattle.post.specs.Promises.{enrolSaid, enrolPost, offerSaid, offerPost, settleSaid}
+use Rattle.post.specs.Promises.{enrolMustSay, enrolPost, offerMustSay, offerPost, settleMustSay}
 use Rattle.post.specs.Ride.{Allowed, Standing, missed-taken, missed-exactly, missed-refused, ride-enrolled, ride-stands, ride-credits, ride-paid, ride-spent, ride-settles, after as offered}
 
 -- the card: started with the seed and run, round n + 1 with the out buffer `outs n`
@@ -74,11 +74,11 @@ module _ (function k s : ℕ) (seed lent : List ℕ) (given : Given function k s
           rw (as-offered m (omega arith)) (ride-stands c k seed (given .known) (given .small) (given .seeded) post long gaps allowed m n e)
 
       -- the post takes the anchor
-      pub post-enrols : enrolSaid function k anchor post ≡ 0 ∷ []
+      pub post-enrols : enrolMustSay function k anchor post ≡ 0 ∷ []
       post-enrols = rw anchor-is (ride-enrolled c k seed (given .known) (given .small) (given .seeded) post long gaps allowed)
 
       -- every tick in order is credited exactly 1
-      pub every-tick-is-credited : (m : ℕ) → m < 2 ^ k → offerSaid (paid m) (tick m) (gaps m) ≡ 0 ∷ 1 ∷ []
+      pub every-tick-is-credited : (m : ℕ) → m < 2 ^ k → offerMustSay (paid m) (tick m) (gaps m) ≡ 0 ∷ 1 ∷ []
       every-tick-is-credited m h =
           let n = 2 ^ k - suc m in
           let e : m + suc n ≡ 2 ^ k = omega arith in
@@ -89,19 +89,19 @@ module _ (function k s : ℕ) (seed lent : List ℕ) (given : Given function k s
       all-is-paid = rw (as-offered (2 ^ k) (omega arith)) (ride-paid c k seed (given .known) (given .small) (given .seeded) post long gaps allowed)
 
       -- whatever is offered then, the post says 6
-      pub then-it-is-spent : (value : List ℕ) (gap : ℕ) → Allowed gap → offerSaid (paid (2 ^ k)) value gap ≡ 6 ∷ []
+      pub then-it-is-spent : (value : List ℕ) (gap : ℕ) → Allowed gap → offerMustSay (paid (2 ^ k)) value gap ≡ 6 ∷ []
       then-it-is-spent value gap a =
           rw (as-offered (2 ^ k) (omega arith)) (ride-spent c k seed (given .known) (given .small) (given .seeded) post long gaps allowed value gap a)
 
       -- and settle says yes for the last tick
-      pub then-settle-says-yes : settleSaid function k anchor (tick (2 ^ k - 1)) (2 ^ k) ≡ 0 ∷ 1 ∷ []
+      pub then-settle-says-yes : settleMustSay function k anchor (tick (2 ^ k - 1)) (2 ^ k) ≡ 0 ∷ 1 ∷ []
       unfolding chain
       then-settle-says-yes =
           rw (anchor-is, tick-is (2 ^ k - 1) 0 (omega (arith, pow-pos k))) (ride-settles c k seed (given .known) (given .small) (given .seeded))
 
       -- with d - 1 ticks missed after m offered ones, d at most G, the next tick is taken, and the credit is at most d
       pub missed-tick-is-taken : (m d gap : ℕ) → 0 < d → m + d ≤ 2 ^ k → d ≤ gap → Allowed gap
-          → (credit : ℕ) × (offerSaid (paid m) (tick (m + d - 1)) gap ≡ 0 ∷ credit ∷ []) × (credit ≤ d)
+          → (credit : ℕ) × (offerMustSay (paid m) (tick (m + d - 1)) gap ≡ 0 ∷ credit ∷ []) × (credit ≤ d)
       missed-tick-is-taken m d gap p h l a =
           let n = 2 ^ k - (m + d) in
           rw (tick-is (m + d - 1) n (omega arith))
@@ -110,7 +110,7 @@ module _ (function k s : ℕ) (seed lent : List ℕ) (given : Given function k s
       -- and exactly d where no fewer steps from it reach the value held
       pub missed-tick-counts-all : (m d gap : ℕ) → 0 < d → m + d ≤ 2 ^ k → d ≤ gap → Allowed gap
           → ((j : ℕ) → 0 < j → j < d → chain (step c) (tick (m + d - 1)) j ≡ x (2 ^ k - m) → ⊥)
-          → offerSaid (paid m) (tick (m + d - 1)) gap ≡ 0 ∷ d ∷ []
+          → offerMustSay (paid m) (tick (m + d - 1)) gap ≡ 0 ∷ d ∷ []
       missed-tick-counts-all m d gap p h l a none =
           let n = 2 ^ k - (m + d) in
           let t : tick (m + d - 1) ≡ x n = tick-is (m + d - 1) n (omega arith) in
@@ -120,7 +120,7 @@ module _ (function k s : ℕ) (seed lent : List ℕ) (given : Given function k s
 
       -- with one tick missed and G = 1 it says 9 and changes nothing, unless one step happens to reach the value held
       pub one-missed-is-refused : (m : ℕ) → m + 2 ≤ 2 ^ k → (step c (tick (m + 1)) ≡ x (2 ^ k - m) → ⊥)
-          → (offerSaid (paid m) (tick (m + 1)) 1 ≡ 9 ∷ []) × (offerPost (paid m) (tick (m + 1)) 1 ≡ paid m)
+          → (offerMustSay (paid m) (tick (m + 1)) 1 ≡ 9 ∷ []) × (offerPost (paid m) (tick (m + 1)) 1 ≡ paid m)
       one-missed-is-refused m h none =
           let n = 2 ^ k - (m + 2) in
           let t : tick (m + 1) ≡ x n = tick-is (m + 1) n (omega arith) in

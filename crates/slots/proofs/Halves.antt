@@ -9,7 +9,7 @@ use native.Mathlib.Omega.{arith}
 use lib.ListN.{length, take, drop, length-append, length-drop}
 use Rattle.pebbling.specs.Recursion.{done, held, positions, work, round}
 use Rattle.pebbling.specs.SideBySide.{
-  sideHeld,
+  sideHeldCount,
   sidePositions-late,
   sidePositions-last,
   positions-itself,
@@ -35,16 +35,16 @@ module _ (t : ℕ → ℕ → ℕ) (j n : ℕ) (0<n : 0 < n) where
   pub held-before : length (positions t (suc j) (2 ^ suc j + n) 0) ≡ length (positions t j (2 ^ j + n) 0) + length (positions t j n 0)
   held-before = split n 0<n
 
-  pub held-after : length (positions t (suc j) (suc (2 ^ suc j + n)) 0) ≡ length (positions t j (suc (2 ^ j + n)) 0) + length (positions t j (suc n) 0)
-  held-after = rw (add-suc (2 ^ suc j) n, add-suc (2 ^ j) n) at (split (suc n) (omega arith))
+  pub held-count-after : length (positions t (suc j) (suc (2 ^ suc j + n)) 0) ≡ length (positions t j (suc (2 ^ j + n)) 0) + length (positions t j (suc n) 0)
+  held-count-after = rw (add-suc (2 ^ suc j) n, add-suc (2 ^ j) n) at (split (suc n) (omega arith))
 
   -- ---- the children of P_(j+1) are what it is then
 
   past : 2 ^ suc j + n - 2 ^ suc j ≡ n
   past = omega arith
 
-  children-held : length (positions t (suc j) (2 ^ suc j + n) 0) ≡ sideHeld t (suc j) n
-  children-held = ap length (positions-children t (suc j) (2 ^ suc j + n) 0 (omega arith)) ∙ ap (sideHeld t (suc j)) past
+  children-held : length (positions t (suc j) (2 ^ suc j + n) 0) ≡ sideHeldCount t (suc j) n
+  children-held = ap length (positions-children t (suc j) (2 ^ suc j + n) 0 (omega arith)) ∙ ap (sideHeldCount t (suc j)) past
 
   module _ {A : Type 0} (f : A → A) (ys : List A) where
     children-round : round t f (suc j) (2 ^ suc j + n) ys ≡ sideRound t f (suc j) n ys
@@ -57,7 +57,7 @@ module _ (t : ℕ → ℕ → ℕ) (j n : ℕ) (0<n : 0 < n) where
     alone-before = omega (arith, held-before, ap length (positions-ended t j (2 ^ j + n) 0 (omega arith)))
 
     pub alone-after : length (positions t (suc j) (suc (2 ^ suc j + n)) 0) ≡ length (positions t j (suc n) 0)
-    alone-after = omega (arith, held-after, ap length (positions-ended t j (suc (2 ^ j + n)) 0 (omega arith)))
+    alone-after = omega (arith, held-count-after, ap length (positions-ended t j (suc (2 ^ j + n)) 0 (omega arith)))
 
     pub alone-works : work t (suc j) (2 ^ suc j + n) ≡ work t j n
     alone-works = omega (arith, work-split t j n 0<n, work-ended t j (2 ^ j + n) (omega arith))
@@ -79,11 +79,11 @@ module _ (t : ℕ → ℕ → ℕ) (j n : ℕ) (0<n : 0 < n) where
         ≡ round t f j (2 ^ j + n) (take (length (positions t j (2 ^ j + n) 0)) ys) ++ round t f j n (drop (length (positions t j (2 ^ j + n) 0)) ys)
     both-round f ys e =
         let d : 2 ^ j + n - 2 ^ j ≡ n = omega arith in
-        let m : length (positions t j (2 ^ j + n) 0) ≡ sideHeld t j n = ap length (positions-children t j (2 ^ j + n) 0 (omega arith)) ∙ ap (sideHeld t j) d in
-        let own : length (drop (sideHeld t j n) ys) ≡ length (held j (done t j n) 0) =
-        length-drop (sideHeld t j n) ys ∙ omega (arith, ap length (positions-itself t j n 0 (omega arith))) in
-        let upper = ap (λ (x : ℕ). sideRound t f j x (take (sideHeld t j n) ys)) d in
+        let m : length (positions t j (2 ^ j + n) 0) ≡ sideHeldCount t j n = ap length (positions-children t j (2 ^ j + n) 0 (omega arith)) ∙ ap (sideHeldCount t j) d in
+        let own : length (drop (sideHeldCount t j n) ys) ≡ length (held j (done t j n) 0) =
+        length-drop (sideHeldCount t j n) ys ∙ omega (arith, ap length (positions-itself t j n 0 (omega arith))) in
+        let upper = ap (λ (x : ℕ). sideRound t f j x (take (sideHeldCount t j n) ys)) d in
         rw m
         (children-round f ys
         ∙ sideRound-both t f j n ys early (e ∙ sym held-before ∙ children-held)
-        ∙ rw (round-children t f j (2 ^ j + n) (take (sideHeld t j n) ys) (omega arith), d, round-prepare t f j n (drop (sideHeld t j n) ys) early own) refl)
+        ∙ rw (round-children t f j (2 ^ j + n) (take (sideHeldCount t j n) ys) (omega arith), d, round-prepare t f j n (drop (sideHeldCount t j n) ys) early own) refl)

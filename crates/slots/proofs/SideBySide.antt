@@ -20,7 +20,7 @@ use Rattle.pebbling.specs.Recursion.{schedule, positions}
 use Rattle.pebbling.specs.SideBySide.{work-split}
 use Rattle.pebbling.specs.Totals.{work-lt}
 use Rattle.slots.specs.Moves.{Moves, Advancing, Advanced}
-use Rattle.slots.proofs.Halves.{held-before, held-after, alone-before, alone-after, alone-works, alone-round, both-round}
+use Rattle.slots.proofs.Halves.{held-before, held-count-after, alone-before, alone-after, alone-works, alone-round, both-round}
 use Rattle.slots.proofs.Moving.{moves-same, moves-both}
 use Rattle.slots.proofs.OwnRound.{out-asks, out-moves}
 
@@ -50,7 +50,7 @@ module _ {chain : Chain} {s j n : ℕ} {old new : List ℕ} (asked : Advancing c
   -- while both run
   spread : (width chain * length (positions (schedule s) j (2 ^ j + n) 0) + width chain * length (positions (schedule s) j n 0) ≤ length old)
       × (width chain * length (positions (schedule s) j (suc (2 ^ j + n)) 0) + width chain * length (positions (schedule s) j (suc n) 0) ≤ length new)
-  spread = (omega (arith, rw (held-before (schedule s) j n 0<n) at (asked .enough)), omega (arith, rw (held-after (schedule s) j n 0<n) at (asked .room)))
+  spread = (omega (arith, rw (held-before (schedule s) j n 0<n) at (asked .enough)), omega (arith, rw (held-count-after (schedule s) j n 0<n) at (asked .room)))
 
   module _ (early : n < 2 ^ j) where
     upper-first-asks : Advancing chain s j (2 ^ j + n) old new
@@ -94,7 +94,7 @@ module _ {chain : Chain} {s j n : ℕ} {old new : List ℕ} (asked : Advancing c
             let a : ℕ = length (positions (schedule s) (suc j) (2 ^ suc j + n) 0) in
             let l : length (values (width chain) a old) ≡ length (positions (schedule s) j (2 ^ j + n) 0) + length (positions (schedule s) j n 0) =
             values-length (width chain) a old ∙ held-before (schedule s) j n 0<n in
-            moves-same (held-before (schedule s) j n 0<n) (held-after (schedule s) j n 0<n) (work-split (schedule s) j n 0<n)
+            moves-same (held-before (schedule s) j n 0<n) (held-count-after (schedule s) j n 0<n) (work-split (schedule s) j n 0<n)
             (both-round (schedule s) j n 0<n early (step chain) (values (width chain) a old) l)
             (moves-both upper (upper-inside .1) lower)
 

@@ -14,7 +14,7 @@ use oneway::Chain;
 use pebbling::RoundNumber;
 use pebbling::hashes::hashes_done;
 use pebbling::hashes::hashes_in;
-use pebbling::hashes::held_after;
+use pebbling::hashes::held_count_after;
 use pebbling::powers::bits;
 use pebbling::powers::power;
 use pebbling::rounds_left;
@@ -44,8 +44,8 @@ fn open(w: usize, k: u32, h: u32, at: usize, new: &mut [u8]) -> usize
     requires { ⌜ Opening w k h at (now new) ⌝ }
     ensures { λ to. ⌜ Opened w k h at (now (new .entry)) to (now (new .exit)) ⌝ }
 {
-    let before = held_after(k, h);
-    let after = held_after(k, h + 1);
+    let before = held_count_after(k, h);
+    let after = held_count_after(k, h + 1);
     if before < after {
         let to = at - w;
         repeat(w, &mut new[to..]);
@@ -91,7 +91,7 @@ fn prepare(
     let w = oneway::width(chain);
     let h = hashes_done(schedule, k, round);
     let n = hashes_in(schedule, k, round);
-    let read = held_after(k, h) as usize * w;
+    let read = held_count_after(k, h) as usize * w;
     if n == 0 {
         copy(&old[..read], new);
         return Moved {
@@ -100,7 +100,7 @@ fn prepare(
             hashes: 0,
         };
     }
-    let written = held_after(k, h + n) as usize * w;
+    let written = held_count_after(k, h + n) as usize * w;
     let at = written - read;
     copy(&old[..read], &mut new[at..]);
     let applied = hash(chain, k, h, n, at, new);

@@ -104,7 +104,7 @@ fn card(random: &mut Random) -> Vec<u8> {
     record
 }
 
-/// Breaks what document 01 says of a record, in none, one or several places.
+/// Breaks what docs/RULES.md says of a record, in none, one or several places.
 fn damage(random: &mut Random, record: &mut Vec<u8>) {
     if record.len() >= 16 {
         let byte = random.number() as u8;

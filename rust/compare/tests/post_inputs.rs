@@ -96,7 +96,7 @@ fn walk(function: u32, value: &[u8; 16], steps: u32) -> [u8; 16] {
     at
 }
 
-/// Breaks what document 01 says of a record, in none, one or several places.
+/// Breaks what docs/RULES.md says of a record, in none, one or several places.
 fn damage(random: &mut Random, record: &mut Vec<u8>, ticks: u32) {
     let byte = random.number() as u8;
     if random.once_in(20) {

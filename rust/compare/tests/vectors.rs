@@ -1,4 +1,4 @@
-//! Known values and document 01's edges, in both.
+//! Known values and the edges of docs/RULES.md, in both.
 
 use compare::{both, Turn};
 use perchmellow::{card_len, POST_LEN};

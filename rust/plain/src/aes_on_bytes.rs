@@ -1,4 +1,4 @@
-//! Function 1 once more, in the form that document 01 asks of the proved code: bytes and the S-box, no tables of columns. With the
+//! Function 1 once more, in the form that docs/RULES.md asks of the proved code: bytes and the S-box, no tables of columns. With the
 //! feature `on_bytes` it takes the place of `aes`, so that the benchmark shows how much of a difference is the form.
 
 use crate::function::{bytes, words, Words};

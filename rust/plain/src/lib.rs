@@ -1,4 +1,4 @@
-//! A card and a post in plain Rust, written from document 01 and without a proof: the measure for the proved library, in its answers
+//! A card and a post in plain Rust, written from docs/RULES.md and without a proof: the measure for the proved library, in its answers
 //! and in its speed. The calls have the names and the arguments of the crate `perchmellow`, and nothing else of it.
 //!
 //! Safe code and std only, for any processor: no intrinsics, so no AES instructions.

@@ -43,7 +43,7 @@ pub struct Pebbler {
 }
 
 impl Pebbler {
-    /// Hashes in this round: document 01's t(k, r), at r = 2^k - left.
+    /// Hashes in this round: t(k, r) of docs/RULES.md, at r = 2^k - left.
     #[inline]
     pub fn hashes(self, schedule: u32) -> u32 {
         let Pebbler { level: k, left, .. } = self;

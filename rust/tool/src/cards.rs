@@ -193,7 +193,7 @@ pub fn anchor(args: &Args) -> Done {
     Ok(0)
 }
 
-/// The listing of document 01, from a real card.
+/// The listing of docs/RULES.md, from a real card.
 pub fn list(args: &Args) -> Done {
     let (name, schedule, k) = args.run_asked(0, 10)?;
     let steps = run::run(perchmellow::MD5, k, schedule, &[0; VALUE_LEN]).map_err(|refusal| Asked::of_k(k).refused("list", refusal))?;

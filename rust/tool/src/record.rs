@@ -1,4 +1,4 @@
-//! Records read field by field, as document 01 lays them out: for `show`, and for the sentence of a refusal.
+//! Records read field by field, as docs/RULES.md lays them out: for `show`, and for the sentence of a refusal.
 //!
 //! The library alone decides what is refused. What is read here says where the reason stands.
 

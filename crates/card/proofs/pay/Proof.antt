@@ -13,7 +13,7 @@ returns : tie.Need-returns
 returns c =
     let at-power = c .before .before in
     let start = at-power .before .before .before .before in
-    paid-quiet (start .args .head) _ (start .args .held .now) (start .args .out .now) (start .pre) _ (at-power .power .ensures) (c .if1 .taken)
+    paid-quiet (start .args .head) _ (start .args .slots .now) (start .args .out .now) (start .pre) _ (at-power .power .ensures) (c .if1 .taken)
 
 width-requires : tie.Need-width-requires
 width-requires c κs = search needs
@@ -47,7 +47,7 @@ returns-2 c =
     let at-if1 = at-width .before in
     let at-power = at-if1 .before .before in
     let start = at-power .before .before .before .before in
-    paid-tick (start .args .head) _ (start .args .held .now) (start .args .out .now) (start .pre) _ (at-power .power .ensures) (at-if1 .if1 .left) _ _ _ (at-width .width .ensures) (at-rounds-left .rounds-left .ensures) (at-copy .copy .ensures)
+    paid-tick (start .args .head) _ (start .args .slots .now) (start .args .out .now) (start .pre) _ (at-power .power .ensures) (at-if1 .if1 .left) _ _ _ (at-width .width .ensures) (at-rounds-left .rounds-left .ensures) (at-copy .copy .ensures)
 
 pub pay-spec : {M : Type 1} → statement M
 pay-spec =

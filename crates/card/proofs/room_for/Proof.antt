@@ -13,28 +13,28 @@ returns c =
     let start = at-width .before .before .before in
     seed-strange (start .args .seed .now) (start .args .card .now) (start .args .head) _ (at-width .width .ensures) (c .if1 .taken)
 
-slot-bytes-requires : tie.Need-slot-bytes-requires
-slot-bytes-requires c κs = search needs
+slots-size-requires : tie.Need-slots-size-requires
+slots-size-requires c κs = search needs
 
 add-end : tie.Need-add-end
 add-end c = search needs
 
 returns-2 : tie.Need-returns-2
 returns-2 c =
-    let at-slot-bytes = c .before in
-    let at-if1 = at-slot-bytes .before in
+    let at-slots-size = c .before in
+    let at-if1 = at-slots-size .before in
     let at-width = at-if1 .before in
     let start = at-width .before .before .before in
-    card-short (start .args .seed .now) (start .args .card .now) (start .args .head) _ (at-width .width .ensures) (at-if1 .if1 .left) _ (at-slot-bytes .slot-bytes .ensures) (c .if2 .taken)
+    card-short (start .args .seed .now) (start .args .card .now) (start .args .head) _ (at-width .width .ensures) (at-if1 .if1 .left) _ (at-slots-size .slots-size .ensures) (c .if2 .taken)
 
 returns-3 : tie.Need-returns-3
 returns-3 c =
-    let at-slot-bytes = c .before in
-    let at-if1 = at-slot-bytes .before in
+    let at-slots-size = c .before in
+    let at-if1 = at-slots-size .before in
     let at-width = at-if1 .before in
     let start = at-width .before .before .before in
-    card-long (start .args .seed .now) (start .args .card .now) (start .args .head) _ (at-width .width .ensures) (at-if1 .if1 .left) _ (at-slot-bytes .slot-bytes .ensures) (c .if2 .left)
+    card-long (start .args .seed .now) (start .args .card .now) (start .args .head) _ (at-width .width .ensures) (at-if1 .if1 .left) _ (at-slots-size .slots-size .ensures) (c .if2 .left)
 
 pub room-for-spec : {M : Type 1} → statement M
 room-for-spec =
-    tie.close (tie.spec width-requires returns slot-bytes-requires add-end returns-2 returns-3)
+    tie.close (tie.spec width-requires returns slots-size-requires add-end returns-2 returns-3)

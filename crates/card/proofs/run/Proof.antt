@@ -8,8 +8,8 @@ use Rattle.card.proofs.TurnLaws.{end-in, advance-asks, never-full, pay-
 use Rattle.card.proofs.run.Statement.{statement}
 use Rattle.card.proofs.run.Tie as tie
 
-slot-bytes-requires : tie.Need-slot-bytes-requires
-slot-bytes-requires c κs = search needs
+slots-size-requires : tie.Need-slots-size-requires
+slots-size-requires c κs = search needs
 
 add-end : tie.Need-add-end
 add-end c = search needs
@@ -22,18 +22,18 @@ part-advance-start c = search needs
 
 part-advance-end : tie.Need-part-advance-end
 part-advance-end c =
-    let at-slot-bytes = c .before .before in
-    let start = at-slot-bytes .before .before .before in
-    end-in (start .args .head) (start .args .card .now) (start .args .out .now) (start .pre) _ (at-slot-bytes .slot-bytes .ensures)
+    let at-slots-size = c .before .before in
+    let start = at-slots-size .before .before .before in
+    end-in (start .args .head) (start .args .card .now) (start .args .out .now) (start .pre) _ (at-slots-size .slots-size .ensures)
 
 slice-aggregate-advance : tie.Need-slice-aggregate-advance
 slice-aggregate-advance c = search needs
 
 advance-requires : tie.Need-advance-requires
 advance-requires c κs =
-    let at-slot-bytes = c .before .before .before .before in
-    let start = at-slot-bytes .before .before .before in
-    advance-asks (start .args .head) (start .args .card .now) (start .args .out .now) (start .pre) _ (at-slot-bytes .slot-bytes .ensures) _ refl
+    let at-slots-size = c .before .before .before .before in
+    let start = at-slots-size .before .before .before in
+    advance-asks (start .args .head) (start .args .card .now) (start .args .out .now) (start .pre) _ (at-slots-size .slots-size .ensures) _ refl
 
 same-length : tie.Need-same-length
 same-length c = search needs
@@ -41,9 +41,9 @@ same-length c = search needs
 returns : tie.Need-returns
 returns c =
     let at-advance = c .before .before in
-    let at-slot-bytes = at-advance .before .before .before .before .before in
-    let start = at-slot-bytes .before .before .before in
-    absurd (never-full (start .args .head) (start .args .card .now) (start .args .out .now) (start .pre) _ (at-slot-bytes .slot-bytes .ensures) (at-advance .advance .last .1 .1 .1 .1 .1 .0) _ _ _ (at-advance .advance .kept .1 .1 .1 .1 .1 .0) (at-advance .advance .ensures) (c .if1 .taken))
+    let at-slots-size = at-advance .before .before .before .before .before in
+    let start = at-slots-size .before .before .before in
+    absurd (never-full (start .args .head) (start .args .card .now) (start .args .out .now) (start .pre) _ (at-slots-size .slots-size .ensures) (at-advance .advance .last .1 .1 .1 .1 .1 .0) _ _ _ (at-advance .advance .kept .1 .1 .1 .1 .1 .0) (at-advance .advance .ensures) (c .if1 .taken))
 
 sub-pay : tie.Need-sub-pay
 sub-pay c = search needs
@@ -53,21 +53,21 @@ part-pay-start c = search needs
 
 part-pay-end : tie.Need-part-pay-end
 part-pay-end c =
-    let at-slot-bytes = c .before .before .before .before .before .before .before .before in
-    let start = at-slot-bytes .before .before .before in
-    end-in (start .args .head) (start .args .card .now) (start .args .out .now) (start .pre) _ (at-slot-bytes .slot-bytes .ensures)
+    let at-slots-size = c .before .before .before .before .before .before .before .before in
+    let start = at-slots-size .before .before .before in
+    end-in (start .args .head) (start .args .card .now) (start .args .out .now) (start .pre) _ (at-slots-size .slots-size .ensures)
 
 pay-requires : tie.Need-pay-requires
 pay-requires c κs =
-    let at-slot-bytes = c .before .before .before .before .before .before .before .before .before .before in
-    let start = at-slot-bytes .before .before .before in
-    pay-asks (start .args .head) (start .args .card .now) (start .args .out .now) (start .pre) _ (at-slot-bytes .slot-bytes .ensures)
+    let at-slots-size = c .before .before .before .before .before .before .before .before .before .before in
+    let start = at-slots-size .before .before .before in
+    pay-asks (start .args .head) (start .args .card .now) (start .args .out .now) (start .pre) _ (at-slots-size .slots-size .ensures)
 
 later-requires : tie.Need-later-requires
 later-requires c κs =
-    let at-slot-bytes = c .before .before .before .before .before .before .before .before .before .before .before .before .before in
-    let start = at-slot-bytes .before .before .before in
-    next-fits (start .args .head) (start .args .card .now) (start .args .out .now) (start .pre) _ (at-slot-bytes .slot-bytes .ensures)
+    let at-slots-size = c .before .before .before .before .before .before .before .before .before .before .before .before .before in
+    let start = at-slots-size .before .before .before in
+    next-fits (start .args .head) (start .args .card .now) (start .args .out .now) (start .pre) _ (at-slots-size .slots-size .ensures)
 
 array-share-prefix-next : tie.Need-array-share-prefix-next
 array-share-prefix-next c = search needs
@@ -75,16 +75,16 @@ array-share-prefix-next c = search needs
 slice-aggregate-put : tie.Need-slice-aggregate-put
 slice-aggregate-put c =
     let at-advance = c .before .before .before .before .before .before .before .before .before .before in
-    let at-slot-bytes = at-advance .before .before .before .before .before in
-    sym (length-take-le _ _ (omega (arith, at-slot-bytes .slot-bytes .ensures .1, at-advance .advance .kept .1 .1 .1 .1 .1 .0)))
+    let at-slots-size = at-advance .before .before .before .before .before in
+    sym (length-take-le _ _ (omega (arith, at-slots-size .slots-size .ensures .1, at-advance .advance .kept .1 .1 .1 .1 .1 .0)))
 
 put-requires : tie.Need-put-requires
 put-requires c κs =
     let at-later = c .before .before in
     let at-advance = at-later .before .before .before .before .before .before .before .before .before in
-    let at-slot-bytes = at-advance .before .before .before .before .before in
-    let start = at-slot-bytes .before .before .before in
-    put-asks (start .args .head) (start .args .card .now) (start .args .out .now) (start .pre) _ (at-slot-bytes .slot-bytes .ensures) (at-advance .advance .last .1 .1 .1 .1 .1 .0) _ _ _ (at-advance .advance .kept .1 .1 .1 .1 .1 .0) (at-advance .advance .ensures) _ (at-later .later .ensures)
+    let at-slots-size = at-advance .before .before .before .before .before in
+    let start = at-slots-size .before .before .before in
+    put-asks (start .args .head) (start .args .card .now) (start .args .out .now) (start .pre) _ (at-slots-size .slots-size .ensures) (at-advance .advance .last .1 .1 .1 .1 .1 .0) _ _ _ (at-advance .advance .kept .1 .1 .1 .1 .1 .0) (at-advance .advance .ensures) _ (at-later .later .ensures)
 
 same-length-2 : tie.Need-same-length-2
 same-length-2 c = search needs
@@ -98,15 +98,15 @@ returns-2 c =
     let at-later = at-put .before .before .before in
     let at-pay = at-later .before .before .before in
     let at-advance = at-pay .before .before .before .before .before .before in
-    let at-slot-bytes = at-advance .before .before .before .before .before in
-    let start = at-slot-bytes .before .before .before in
-    ran (start .args .head) (start .args .card .now) (start .args .out .now) (start .pre) _ (at-slot-bytes .slot-bytes .ensures) (at-advance .advance .last .1 .1 .1 .1 .1 .0) _ _ _ (at-advance .advance .kept .1 .1 .1 .1 .1 .0) (at-advance .advance .ensures) _ _ _ _ (at-pay .pay .ensures) (at-later .later .ensures) (at-put .put .ensures)
+    let at-slots-size = at-advance .before .before .before .before .before in
+    let start = at-slots-size .before .before .before in
+    ran (start .args .head) (start .args .card .now) (start .args .out .now) (start .pre) _ (at-slots-size .slots-size .ensures) (at-advance .advance .last .1 .1 .1 .1 .1 .0) _ _ _ (at-advance .advance .kept .1 .1 .1 .1 .1 .0) (at-advance .advance .ensures) _ _ _ _ (at-pay .pay .ensures) (at-later .later .ensures) (at-put .put .ensures)
 
 pub run-spec : {M : Type 1} → statement M
 run-spec =
     tie.close
     (tie.spec
-    slot-bytes-requires
+    slots-size-requires
     add-end
     sub-advance
     part-advance-start

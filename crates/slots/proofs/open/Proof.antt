@@ -7,19 +7,19 @@ use Rattle.slots.proofs.Growing.{open-space, open-lent, open-begins, op
 use Rattle.slots.proofs.open.Statement.{statement}
 use Rattle.slots.proofs.open.Tie as tie
 
-held-after-requires : tie.Need-held-after-requires
-held-after-requires c κs = search needs
+held-count-after-requires : tie.Need-held-count-after-requires
+held-count-after-requires c κs = search needs
 
-add-held-after : tie.Need-add-held-after
-add-held-after c = let s = c .before .before in omega (arith, s .pre .more, pow-mono {i = s .args .k} {j = 20} (s .pre .small))
+add-held-count-after : tie.Need-add-held-count-after
+add-held-count-after c = let s = c .before .before in omega (arith, s .pre .more, pow-mono {i = s .args .k} {j = 20} (s .pre .small))
 
-held-after-requires-2 : tie.Need-held-after-requires-2
-held-after-requires-2 c κs = search needs
+held-count-after-requires-2 : tie.Need-held-count-after-requires-2
+held-count-after-requires-2 c κs = search needs
 
 sub-to : tie.Need-sub-to
 sub-to c =
     let s = c .before .before .before .before in
-    open-space (s .pre) (c .before .before .held-after .ensures) (c .before .held-after2 .ensures) (c .if1 .taken)
+    open-space (s .pre) (c .before .before .held-count-after .ensures) (c .before .held-count-after2 .ensures) (c .if1 .taken)
 
 sub-repeat : tie.Need-sub-repeat
 sub-repeat c = search needs
@@ -34,7 +34,7 @@ repeat-requires : tie.Need-repeat-requires
 repeat-requires c κs =
     let b = c .before in
     let s = b .before .before .before .before in
-    open-lent (s .pre) (b .before .before .held-after .ensures) (b .before .held-after2 .ensures) (b .if1 .taken)
+    open-lent (s .pre) (b .before .before .held-count-after .ensures) (b .before .held-count-after2 .ensures) (b .if1 .taken)
 
 same-length : tie.Need-same-length
 same-length c = search needs
@@ -43,21 +43,21 @@ returns : tie.Need-returns
 returns c =
     let b = c .before .before .before .before in
     let s = b .before .before .before .before in
-    open-begins (s .pre) (b .before .before .held-after .ensures) (b .before .held-after2 .ensures) (b .if1 .taken)
+    open-begins (s .pre) (b .before .before .held-count-after .ensures) (b .before .held-count-after2 .ensures) (b .if1 .taken)
     (c .before .before .repeat .ensures)
 
 returns-2 : tie.Need-returns-2
 returns-2 c =
     let s = c .before .before .before .before in
-    open-goes-on (s .pre) (c .before .before .held-after .ensures) (c .before .held-after2 .ensures) (c .if1 .left)
+    open-goes-on (s .pre) (c .before .before .held-count-after .ensures) (c .before .held-count-after2 .ensures) (c .if1 .left)
 
 pub open-spec : {M : Type 1} → statement M
 open-spec =
     tie.close
     (tie.spec
-    held-after-requires
-    add-held-after
-    held-after-requires-2
+    held-count-after-requires
+    add-held-count-after
+    held-count-after-requires-2
     sub-to
     sub-repeat
     part-repeat-start

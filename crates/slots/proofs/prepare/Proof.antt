@@ -13,10 +13,10 @@ use Rattle.slots.proofs.prepare.Statement.{statement}
 use Rattle.slots.proofs.prepare.Tie as tie
 
 -- what the code has worked out before its first test
-counted : (c : tie.After-held-after)
+counted : (c : tie.After-held-count-after)
     → let s = c .before .before .before .before .before .before in
     Preparing (s .args .chain) (s .args .schedule) (s .args .k) (s .args .round .0) (s .args .old .now) (s .args .new .now) (c .before .before .before .width .result)
-    (c .before .before .hashes-done .result) (c .before .hashes-in .result) (c .held-after .result)
+    (c .before .before .hashes-done .result) (c .before .hashes-in .result) (c .held-count-after .result)
 counted c =
     let s = c .before .before .before .before .before .before in
     record {
@@ -25,14 +25,14 @@ counted c =
       wide = c .before .before .before .width .ensures;
       past = c .before .before .hashes-done .ensures;
       does = c .before .hashes-in .ensures;
-      holds = c .held-after .ensures;
+      holds = c .held-count-after .ensures;
     }
 
-room : (c : tie.After-held-after2)
+room : (c : tie.After-held-count-after2)
     → let h = c .before .before in
     let w = h .before .before .before .width .result in
-    (h .held-after .result * w ≤ c .held-after2 .result * w) × (c .held-after2 .result * w ≤ length (h .before .before .before .before .before .before .args .new .now))
-room c = let p = counted (c .before .before) in (prepare-grows p (c .held-after2 .ensures), prepare-room p (c .held-after2 .ensures))
+    (h .held-count-after .result * w ≤ c .held-count-after2 .result * w) × (c .held-count-after2 .result * w ≤ length (h .before .before .before .before .before .before .args .new .now))
+room c = let p = counted (c .before .before) in (prepare-grows p (c .held-count-after2 .ensures), prepare-room p (c .held-count-after2 .ensures))
 
 width-requires : tie.Need-width-requires
 width-requires c κs = search needs
@@ -45,8 +45,8 @@ hashes-in-requires c κs =
     let s = c .before .before .before .before in
     (omega (arith, s .pre .0 .schedule), not-zero _ _ (s .pre .0 .from) (s .pre .1), s .pre .0 .small, s .pre .1)
 
-held-after-requires : tie.Need-held-after-requires
-held-after-requires c κs = search needs
+held-count-after-requires : tie.Need-held-count-after-requires
+held-count-after-requires c κs = search needs
 
 cast-read : tie.Need-cast-read
 cast-read c = search needs
@@ -71,14 +71,14 @@ returns c =
     let b = c .before .before .before .before .before in
     idle-moves (counted (b .before)) (b .if1 .taken) (c .before .before .copy .ensures)
 
-add-held-after : tie.Need-add-held-after
-add-held-after c =
+add-held-count-after : tie.Need-add-held-count-after
+add-held-count-after c =
     let h = c .before in
     let s = h .before .before .before .before .before .before in
     omega (arith, prepare-fits (counted h), pow-mono {i = s .args .k} {j = 20} (s .pre .0 .small))
 
-held-after-requires-2 : tie.Need-held-after-requires-2
-held-after-requires-2 c κs = (c .before .before .before .before .before .before .before .pre .0 .small, prepare-fits (counted (c .before)))
+held-count-after-requires-2 : tie.Need-held-count-after-requires-2
+held-count-after-requires-2 c κs = (c .before .before .before .before .before .before .before .pre .0 .small, prepare-fits (counted (c .before)))
 
 cast-written : tie.Need-cast-written
 cast-written c = search needs
@@ -110,7 +110,7 @@ hash-requires c κs =
     let m = p .before .before .before in
     let h = m .before .before in
     let s = h .before .before .before .before .before .before in
-    (s .pre .0 .known, prepare-asks (counted h) (m .held-after2 .ensures) (p .copy2 .last .1 .0) (p .copy2 .kept .1 .0))
+    (s .pre .0 .known, prepare-asks (counted h) (m .held-count-after2 .ensures) (p .copy2 .last .1 .0) (p .copy2 .kept .1 .0))
 
 same-length-2 : tie.Need-same-length-2
 same-length-2 c = search needs
@@ -120,7 +120,7 @@ returns-2 c =
     let g = c .before .before in
     let p = g .before .before .before .before in
     let m = p .before .before .before in
-    prepare-moves (counted (m .before .before)) (m .held-after2 .ensures) (p .copy2 .last .1 .0) (p .copy2 .ensures) (g .hash .ensures)
+    prepare-moves (counted (m .before .before)) (m .held-count-after2 .ensures) (p .copy2 .last .1 .0) (p .copy2 .ensures) (g .hash .ensures)
 
 pub prepare-spec : {M : Type 1} → statement M
 prepare-spec =
@@ -129,15 +129,15 @@ prepare-spec =
     width-requires
     hashes-done-requires
     hashes-in-requires
-    held-after-requires
+    held-count-after-requires
     cast-read
     mul-read
     slice-aggregate-copy
     copy-requires
     same-length
     returns
-    add-held-after
-    held-after-requires-2
+    add-held-count-after
+    held-count-after-requires-2
     cast-written
     mul-written
     sub-at

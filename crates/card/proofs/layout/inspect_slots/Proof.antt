@@ -5,8 +5,8 @@ use Rattle.card.proofs.ReadLaws.{slots-short, round-none, round-over, r
 use Rattle.card.proofs.layout.inspect_slots.Statement.{statement}
 use Rattle.card.proofs.layout.inspect_slots.Tie as tie
 
-slot-bytes-requires : tie.Need-slot-bytes-requires
-slot-bytes-requires c κs = search needs
+slots-size-requires : tie.Need-slots-size-requires
+slots-size-requires c κs = search needs
 
 add-end : tie.Need-add-end
 add-end c = search needs
@@ -14,14 +14,14 @@ add-end c = search needs
 returns : tie.Need-returns
 returns c =
     let s = c .before .before .before in
-    slots-short (s .args .card .now) (s .args .head) _ (c .before .slot-bytes .ensures) (c .if1 .taken)
+    slots-short (s .args .card .now) (s .args .head) _ (c .before .slots-size .ensures) (c .if1 .taken)
 
 returns-2 : tie.Need-returns-2
 returns-2 c =
     let at-if1 = c .before .before in
-    let at-slot-bytes = at-if1 .before in
-    let start = at-slot-bytes .before .before in
-    round-none (start .args .card .now) (start .args .head) _ (at-slot-bytes .slot-bytes .ensures) (at-if1 .if1 .left) (c .if2 .taken)
+    let at-slots-size = at-if1 .before in
+    let start = at-slots-size .before .before in
+    round-none (start .args .card .now) (start .args .head) _ (at-slots-size .slots-size .ensures) (at-if1 .if1 .left) (c .if2 .taken)
 
 add-power : tie.Need-add-power
 add-power c = search needs
@@ -34,18 +34,18 @@ returns-3 c =
     let at-power = c .before in
     let at-if2 = at-power .before .before in
     let at-if1 = at-if2 .before .before in
-    let at-slot-bytes = at-if1 .before in
-    let start = at-slot-bytes .before .before in
-    round-over (start .args .card .now) (start .args .head) _ (at-slot-bytes .slot-bytes .ensures) (at-if1 .if1 .left) (at-if2 .if2 .left) _ (at-power .power .ensures) (c .if3 .taken)
+    let at-slots-size = at-if1 .before in
+    let start = at-slots-size .before .before in
+    round-over (start .args .card .now) (start .args .head) _ (at-slots-size .slots-size .ensures) (at-if1 .if1 .left) (at-if2 .if2 .left) _ (at-power .power .ensures) (c .if3 .taken)
 
-held-bytes-requires : tie.Need-held-bytes-requires
-held-bytes-requires c κs =
+held-size-requires : tie.Need-held-size-requires
+held-size-requires c κs =
     let at-power = c .before in
     let at-if2 = at-power .before .before in
     let at-if1 = at-if2 .before .before in
-    let at-slot-bytes = at-if1 .before in
-    let start = at-slot-bytes .before .before in
-    (start .pre .0, start .pre .1, omega (arith, at-if2 .if2 .left), round-in (start .args .card .now) (start .args .head) _ (at-slot-bytes .slot-bytes .ensures) (at-if1 .if1 .left) (at-if2 .if2 .left) _ (at-power .power .ensures) (c .if3 .left))
+    let at-slots-size = at-if1 .before in
+    let start = at-slots-size .before .before in
+    (start .pre .0, start .pre .1, omega (arith, at-if2 .if2 .left), round-in (start .args .card .now) (start .args .head) _ (at-slots-size .slots-size .ensures) (at-if1 .if1 .left) (at-if2 .if2 .left) _ (at-power .power .ensures) (c .if3 .left))
 
 add-from : tie.Need-add-from
 add-from c = search needs
@@ -65,39 +65,39 @@ zeros-requires c κs = search needs
 returns-4 : tie.Need-returns-4
 returns-4 c =
     let at-zeros = c .before in
-    let at-held-bytes = at-zeros .before .before in
-    let at-if3 = at-held-bytes .before in
+    let at-held-size = at-zeros .before .before in
+    let at-if3 = at-held-size .before in
     let at-power = at-if3 .before in
     let at-if2 = at-power .before .before in
     let at-if1 = at-if2 .before .before in
-    let at-slot-bytes = at-if1 .before in
-    let start = at-slot-bytes .before .before in
-    free-zero (start .args .card .now) (start .args .head) _ (at-slot-bytes .slot-bytes .ensures) (at-if1 .if1 .left) (at-if2 .if2 .left) _ (at-power .power .ensures) (at-if3 .if3 .left) _ (at-held-bytes .held-bytes .ensures) _ (at-zeros .zeros .ensures) (c .if4 .taken)
+    let at-slots-size = at-if1 .before in
+    let start = at-slots-size .before .before in
+    free-zero (start .args .card .now) (start .args .head) _ (at-slots-size .slots-size .ensures) (at-if1 .if1 .left) (at-if2 .if2 .left) _ (at-power .power .ensures) (at-if3 .if3 .left) _ (at-held-size .held-size .ensures) _ (at-zeros .zeros .ensures) (c .if4 .taken)
 
 returns-5 : tie.Need-returns-5
 returns-5 c =
     let at-zeros = c .before in
-    let at-held-bytes = at-zeros .before .before in
-    let at-if3 = at-held-bytes .before in
+    let at-held-size = at-zeros .before .before in
+    let at-if3 = at-held-size .before in
     let at-power = at-if3 .before in
     let at-if2 = at-power .before .before in
     let at-if1 = at-if2 .before .before in
-    let at-slot-bytes = at-if1 .before in
-    let start = at-slot-bytes .before .before in
-    free-used (start .args .card .now) (start .args .head) _ (at-slot-bytes .slot-bytes .ensures) (at-if1 .if1 .left) (at-if2 .if2 .left) _ (at-power .power .ensures) (at-if3 .if3 .left) _ (at-held-bytes .held-bytes .ensures) _ (at-zeros .zeros .ensures) (c .if4 .left)
+    let at-slots-size = at-if1 .before in
+    let start = at-slots-size .before .before in
+    free-used (start .args .card .now) (start .args .head) _ (at-slots-size .slots-size .ensures) (at-if1 .if1 .left) (at-if2 .if2 .left) _ (at-power .power .ensures) (at-if3 .if3 .left) _ (at-held-size .held-size .ensures) _ (at-zeros .zeros .ensures) (c .if4 .left)
 
 pub inspect-slots-spec : {M : Type 1} → statement M
 inspect-slots-spec =
     tie.close
     (tie.spec
-    slot-bytes-requires
+    slots-size-requires
     add-end
     returns
     returns-2
     add-power
     power-requires
     returns-3
-    held-bytes-requires
+    held-size-requires
     add-from
     sub-zeros
     part-zeros-start

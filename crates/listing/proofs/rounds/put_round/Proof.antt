@@ -3,7 +3,7 @@
 use mathlib.Core.Path.{sym}
 use borrow.Author.Needs.{needs}
 use lib.Seq.{length-take-le}
-use Rattle.listing.proofs.RoundLaws.{never-refused, held-fits, answer-fits, line-says, card-moves}
+use Rattle.listing.proofs.RoundLaws.{never-refused, count-fits, answer-fits, line-says, card-moves}
 use Rattle.listing.proofs.rounds.put_round.Statement.{statement}
 use Rattle.listing.proofs.rounds.put_round.Tie as tie
 
@@ -39,14 +39,14 @@ array-share-prefix-list c =
     let told = c .before .before .before .before .before .before .before in
     let at-positions = told .before .before .before in
     let s = at-positions .before .before .before .before in
-    held-fits (s .args .schedule) (s .args .k) (s .args .round) (s .pre .0) _ _ (at-positions .positions .ensures) _ _ (told .listed .given .1)
+    count-fits (s .args .schedule) (s .args .k) (s .args .round) (s .pre .0) _ _ (at-positions .positions .ensures) _ _ (told .listed .given .1)
 
 slice-aggregate-put-answer : tie.Need-slice-aggregate-put-answer
 slice-aggregate-put-answer c =
     let told = c .before .before .before .before .before .before .before .before in
     let at-positions = told .before .before .before in
     let s = at-positions .before .before .before .before in
-    sym (length-take-le _ _ (held-fits (s .args .schedule) (s .args .k) (s .args .round) (s .pre .0) _ _ (at-positions .positions .ensures) _ _ (told .listed .given .1)))
+    sym (length-take-le _ _ (count-fits (s .args .schedule) (s .args .k) (s .args .round) (s .pre .0) _ _ (at-positions .positions .ensures) _ _ (told .listed .given .1)))
 
 put-answer-requires : tie.Need-put-answer-requires
 put-answer-requires c κs =

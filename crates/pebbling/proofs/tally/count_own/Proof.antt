@@ -14,7 +14,7 @@ use Rattle.pebbling.proofs.tally.count_own.Tie as tie
 prepares : (c : tie.Else1) → c .before .before .args .round .0 < 2 ^ c .before .before .args .k
 prepares c = let s = c .before .before in before-end _ _ _ (s .pre .3) (c .before .power .ensures) (c .if1 .left)
 
-fits : (c : tie.After-held-after) → c .before .before .hashes-done .result + c .before .hashes-in .result < 2 ^ c .before .before .before .before .before .args .k
+fits : (c : tie.After-held-count-after) → c .before .before .hashes-done .result + c .before .hashes-in .result < 2 ^ c .before .before .before .before .before .args .k
 fits c =
     let e = c .before .before .before in
     let s = e .before .before in
@@ -35,17 +35,17 @@ hashes-done-requires c κs = search needs
 hashes-in-requires : tie.Need-hashes-in-requires
 hashes-in-requires c κs = let s = c .before .before .before in (s .pre .0, not-zero _ _ (s .pre .2) (prepares (c .before)), s .pre .1, prepares (c .before))
 
-held-after-requires : tie.Need-held-after-requires
-held-after-requires c κs = search needs
+held-count-after-requires : tie.Need-held-count-after-requires
+held-count-after-requires c κs = search needs
 
-add-held-after : tie.Need-add-held-after
-add-held-after c = let s = c .before .before .before .before .before in omega (arith, fits c, pow-mono {i = s .args .k} {j = 20} (s .pre .1))
+add-held-count-after : tie.Need-add-held-count-after
+add-held-count-after c = let s = c .before .before .before .before .before in omega (arith, fits c, pow-mono {i = s .args .k} {j = 20} (s .pre .1))
 
-held-after-requires-2 : tie.Need-held-after-requires-2
-held-after-requires-2 c κs = let s = c .before .before .before .before .before in (s .pre .1, fits c)
+held-count-after-requires-2 : tie.Need-held-count-after-requires-2
+held-count-after-requires-2 c κs = let s = c .before .before .before .before .before in (s .pre .1, fits c)
 
 returns-2 : tie.Need-returns-2
-returns-2 c = let e = c .before .before .before .before in let s = e .before .before in own-prepares _ _ _ _ (s .pre .0) (s .pre .1) (s .pre .2) (e .before .power .ensures) (prepares e) _ _ (c .before .before .before .hashes-done .ensures) (c .before .before .hashes-in .ensures) _ _ (c .before .held-after .ensures) (c .held-after2 .ensures)
+returns-2 c = let e = c .before .before .before .before in let s = e .before .before in own-prepares _ _ _ _ (s .pre .0) (s .pre .1) (s .pre .2) (e .before .power .ensures) (prepares e) _ _ (c .before .before .before .hashes-done .ensures) (c .before .before .hashes-in .ensures) _ _ (c .before .held-count-after .ensures) (c .held-count-after2 .ensures)
 
 pub count-own-spec : {M : Type 1} → statement M
 count-own-spec =
@@ -56,7 +56,7 @@ count-own-spec =
     returns
     hashes-done-requires
     hashes-in-requires
-    held-after-requires
-    add-held-after
-    held-after-requires-2
+    held-count-after-requires
+    add-held-count-after
+    held-count-after-requires-2
     returns-2)

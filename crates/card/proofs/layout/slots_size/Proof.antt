@@ -1,9 +1,9 @@
--- `card::layout::slot_bytes` meets its contract. Assumes nothing.
+-- `card::layout::slots_size` meets its contract. Assumes nothing.
 use native.Mathlib.Omega.{arith}
 use borrow.Author.Needs.{needs}
 use Rattle.card.proofs.ReadLaws.{slots-bytes, slots-fit}
-use Rattle.card.proofs.layout.slot_bytes.Statement.{statement}
-use Rattle.card.proofs.layout.slot_bytes.Tie as tie
+use Rattle.card.proofs.layout.slots_size.Statement.{statement}
+use Rattle.card.proofs.layout.slots_size.Tie as tie
 
 width-requires : tie.Need-width-requires
 width-requires c κs = search needs
@@ -22,6 +22,6 @@ returns c =
     let s = c .before .before in
     (slots-bytes (s .args .head) _ (c .before .width .ensures) _ (c .slot-count .ensures), slots-fit (s .args .head) _ (c .before .width .ensures) _ (c .slot-count .ensures))
 
-pub slot-bytes-spec : {M : Type 1} → statement M
-slot-bytes-spec =
+pub slots-size-spec : {M : Type 1} → statement M
+slots-size-spec =
     tie.close (tie.spec width-requires slot-count-requires cast-result mul-result returns)

@@ -1,12 +1,12 @@
--- `card::layout::held_bytes` meets its contract: the count says how many are held, and after the last round none is. Assumes nothing.
+-- `card::layout::held_size` meets its contract: the count says how many are held, and after the last round none is. Assumes nothing.
 use mathlib.Core.Path.{_≡_, ap, _∙_}
 use Prim.Native.Nat.{ℕ, suc, _+_, _^_, _<_}
 use native.Mathlib.Numerals.{add-one}
 use native.Mathlib.Omega.{arith}
 use borrow.Author.Needs.{needs}
 use Rattle.card.proofs.ReadLaws.{held-none, held-small, held-fits, held-counted}
-use Rattle.card.proofs.layout.held_bytes.Statement.{statement}
-use Rattle.card.proofs.layout.held_bytes.Tie as tie
+use Rattle.card.proofs.layout.held_size.Statement.{statement}
+use Rattle.card.proofs.layout.held_size.Tie as tie
 
 add-power : tie.Need-add-power
 add-power c = search needs
@@ -21,8 +21,8 @@ returns c =
     let e : 2 ^ (start .args .head .k + 1) ≡ 2 ^ suc (start .args .head .k) = ap (λ (x : ℕ). 2 ^ x) (add-one (start .args .head .k)) in
     (held-none (start .args .head) (start .pre .0) (c .if1 .taken ∙ at-power .power .ensures .is ∙ e), omega arith)
 
-held-values-requires : tie.Need-held-values-requires
-held-values-requires c κs =
+held-count-requires : tie.Need-held-count-requires
+held-count-requires c κs =
     let at-power = c .before .before in
     let start = at-power .before .before in
     let e : 2 ^ (start .args .head .k + 1) ≡ 2 ^ suc (start .args .head .k) = ap (λ (x : ℕ). 2 ^ x) (add-one (start .args .head .k)) in
@@ -37,25 +37,25 @@ cast-result c = search needs
 
 mul-result : tie.Need-mul-result
 mul-result c =
-    let at-held-values = c .before in
-    let start = at-held-values .before .before .before .before .before in
-    omega (arith, held-small (start .args .head) _ (c .width .ensures) _ (at-held-values .held-values .ensures .1))
+    let at-held-count = c .before in
+    let start = at-held-count .before .before .before .before .before in
+    omega (arith, held-small (start .args .head) _ (c .width .ensures) _ (at-held-count .held-count .ensures .1))
 
 returns-2 : tie.Need-returns-2
 returns-2 c =
-    let at-held-values = c .before in
-    let start = at-held-values .before .before .before .before .before in
-    let e = held-counted (start .args .head) _ (c .width .ensures) (start .pre .0) (start .pre .3) _ (at-held-values .held-values .ensures .0) in
+    let at-held-count = c .before in
+    let start = at-held-count .before .before .before .before .before in
+    let e = held-counted (start .args .head) _ (c .width .ensures) (start .pre .0) (start .pre .3) _ (at-held-count .held-count .ensures .0) in
     (e, omega (arith, e, held-fits (start .args .head) _ (c .width .ensures) (start .pre .0) (start .pre .3)))
 
-pub held-bytes-spec : {M : Type 1} → statement M
-held-bytes-spec =
+pub held-size-spec : {M : Type 1} → statement M
+held-size-spec =
     tie.close
     (tie.spec
     add-power
     power-requires
     returns
-    held-values-requires
+    held-count-requires
     width-requires
     cast-result
     mul-result

@@ -1,4 +1,4 @@
--- `held::held_aside` meets its contract. The children of P_k are P_(k-1) and the children below it; HeldLaws has the three ways in which they run. The
+-- `held::held_count_aside` meets its contract. The children of P_k are P_(k-1) and the children below it; HeldLaws has the three ways in which they run. The
 -- level falls at each call. Assumes nothing.
 use mathlib.Core.Path.{_≡_}
 use Prim.Native.Nat.{ℕ, suc, _-_, _<_}
@@ -6,14 +6,14 @@ use native.Mathlib.Omega.{arith}
 use borrow.Fn.Kinds.{In}
 use borrow.Fn.PlainCycle.{Measures, is, falls, and}
 use Rattle.card.proofs.HeldLaws.{level, aside-late-asks, aside-late, aside-few, aside-last, aside-both-asks, aside-both}
-use Rattle.card.proofs.held.held_aside.Reads as aside
-use Rattle.card.proofs.held.held_aside.Kinds as aside-kinds
-use Rattle.card.proofs.held.+held_aside.Lts-held_aside as lts
+use Rattle.card.proofs.held.held_count_aside.Reads as aside
+use Rattle.card.proofs.held.held_count_aside.Kinds as aside-kinds
+use Rattle.card.proofs.held.+held_count_aside.Lts-held_count_aside as lts
 use Rattle.pebbling.proofs.hashes.hashes_done.Reads as hashes-done
-use Rattle.pebbling.proofs.hashes.held_after.Reads as held-after
+use Rattle.pebbling.proofs.hashes.held_count_after.Reads as held-count-after
 use Rattle.pebbling.proofs.powers.power.Reads as power
-use Rattle.card.proofs.held.+held_aside.{statement}
-use Rattle.card.proofs.held.+held_aside.Tie.{close}
+use Rattle.card.proofs.held.+held_count_aside.{statement}
+use Rattle.card.proofs.held.+held_count_aside.Tie.{close}
 
 abbrev μ-aside : Measures 0 aside-kinds.ps ℕ
 μ-aside κs a = a .1 .0
@@ -26,7 +26,7 @@ module _ (t : ℕ) where
   below = and 0 aside-kinds.ps (falls 0 aside-kinds.ps _<_ μ-aside t) aside.Pre
 
   abbrev claims : lts.Claims
-  claims = (power.Asked, power.Learnt, below, aside.Post, hashes-done.Asked, hashes-done.Learnt, held-after.Asked, held-after.Learnt)
+  claims = (power.Asked, power.Learnt, below, aside.Post, hashes-done.Asked, hashes-done.Learnt, held-count-after.Asked, held-count-after.Learnt)
 
   -- there is a lower level
   rises : (s : lts.Start claims at aside.Post) → suc (s .args .k - 1) ≡ s .args .k
@@ -38,11 +38,11 @@ module _ (t : ℕ) where
   power-requires : lts.Need-power-requires claims at aside.Post
   power-requires c κs = omega (arith, c .pre .1 .small)
 
-  sub-held-aside : lts.Need-sub-held-aside claims at aside.Post
-  sub-held-aside c = omega arith
+  sub-held-count-aside : lts.Need-sub-held-count-aside claims at aside.Post
+  sub-held-count-aside c = omega arith
 
-  held-aside-requires : lts.Need-held-aside-requires claims at aside.Post
-  held-aside-requires c κs =
+  held-count-aside-requires : lts.Need-held-count-aside-requires claims at aside.Post
+  held-count-aside-requires c κs =
       let s = c .before .before in
       (omega (arith, rises s, s .pre .0), aside-late-asks _ _ _ _ _ _ (rises s) (s .pre .1) (c .before .power .ensures) (c .if1 .taken))
 
@@ -50,15 +50,15 @@ module _ (t : ℕ) where
   returns c =
       let b = c .before in
       let s = b .before .before in
-      aside-late _ _ _ _ _ _ (rises s) (s .pre .1) (b .before .power .ensures) (b .if1 .taken) _ (c .held-aside .ensures)
+      aside-late _ _ _ _ _ _ (rises s) (s .pre .1) (b .before .power .ensures) (b .if1 .taken) _ (c .held-count-aside .ensures)
 
   hashes-done-requires : lts.Need-hashes-done-requires claims at aside.Post
   hashes-done-requires c κs =
       let s = c .before .before in
       (s .pre .1 .schedule, omega (arith, rises s, s .pre .1 .small), s .pre .1 .from, omega (arith, c .if1 .left, c .before .power .ensures .is))
 
-  held-after-requires : lts.Need-held-after-requires claims at aside.Post
-  held-after-requires c κs =
+  held-count-after-requires : lts.Need-held-count-after-requires claims at aside.Post
+  held-count-after-requires c κs =
       let s = c .before .before .before in
       (omega (arith, rises s, s .pre .1 .small), c .hashes-done .ensures .small)
 
@@ -66,22 +66,22 @@ module _ (t : ℕ) where
   add-all c =
       let b = c .before .before in
       let s = b .before .before in
-      omega (arith, aside-few _ _ _ _ _ _ (rises s) (s .pre .1) (b .before .power .ensures) (b .if1 .left) _ _ (c .before .hashes-done .ensures) (c .held-after .ensures))
+      omega (arith, aside-few _ _ _ _ _ _ (rises s) (s .pre .1) (b .before .power .ensures) (b .if1 .left) _ _ (c .before .hashes-done .ensures) (c .held-count-after .ensures))
 
   returns-2 : lts.Need-returns-2 claims at aside.Post
   returns-2 c =
       let h = c .before in
       let b = h .before .before in
       let s = b .before .before in
-      aside-last _ _ _ _ _ _ (rises s) (s .pre .1) (b .before .power .ensures) (b .if1 .left) _ _ (h .before .hashes-done .ensures) (h .held-after .ensures) (c .if2 .taken)
+      aside-last _ _ _ _ _ _ (rises s) (s .pre .1) (b .before .power .ensures) (b .if1 .left) _ _ (h .before .hashes-done .ensures) (h .held-count-after .ensures) (c .if2 .taken)
 
-  held-aside-requires-2 : lts.Need-held-aside-requires-2 claims at aside.Post
-  held-aside-requires-2 c κs =
+  held-count-aside-requires-2 : lts.Need-held-count-aside-requires-2 claims at aside.Post
+  held-count-aside-requires-2 c κs =
       let h = c .before in
       let b = h .before .before in
       let s = b .before .before in (
         omega (arith, rises s, s .pre .0),
-        aside-both-asks _ _ _ _ _ _ (rises s) (s .pre .1) (b .before .power .ensures) (b .if1 .left) _ _ (h .before .hashes-done .ensures) (h .held-after .ensures) (c .if2 .left),
+        aside-both-asks _ _ _ _ _ _ (rises s) (s .pre .1) (b .before .power .ensures) (b .if1 .left) _ _ (h .before .hashes-done .ensures) (h .held-count-after .ensures) (c .if2 .left),
       )
 
   returns-3 : lts.Need-returns-3 claims at aside.Post
@@ -89,20 +89,20 @@ module _ (t : ℕ) where
       let h = c .before .before in
       let b = h .before .before in
       let s = b .before .before in
-      aside-both _ _ _ _ _ _ (rises s) (s .pre .1) (b .before .power .ensures) (b .if1 .left) _ _ (h .before .hashes-done .ensures) (h .held-after .ensures) _ (c .held-aside2 .ensures)
+      aside-both _ _ _ _ _ _ (rises s) (s .pre .1) (b .before .power .ensures) (b .if1 .left) _ _ (h .before .hashes-done .ensures) (h .held-count-after .ensures) _ (c .held-count-aside2 .ensures)
 
-pub +held-aside-spec : {M : Type 1} → statement M
-+held-aside-spec =
+pub +held-count-aside-spec : {M : Type 1} → statement M
++held-count-aside-spec =
     close μ-aside λ t.
     lts.spec (claims t) (at t) aside.Post
     (sub-j t)
     (power-requires t)
-    (sub-held-aside t)
-    (held-aside-requires t)
+    (sub-held-count-aside t)
+    (held-count-aside-requires t)
     (returns t)
     (hashes-done-requires t)
-    (held-after-requires t)
+    (held-count-after-requires t)
     (add-all t)
     (returns-2 t)
-    (held-aside-requires-2 t)
+    (held-count-aside-requires-2 t)
     (returns-3 t)
