@@ -16,7 +16,7 @@ abbrev μ-loop : tie.MeasureT-loop
 μ-loop input i₀ i-end i = length input - i
 
 returns : tie.Need-returns Inv-loop μ-loop
-returns c = sym (decides-enough _ (c .if1 .taken))
+returns c = sym (decides-enough _ (omega arith))
 
 loop-holds : tie.Need-loop-holds Inv-loop μ-loop
 loop-holds c = (omega arith, decides-few _ (omega arith))
@@ -27,7 +27,7 @@ shared-slice-read-if2 c = search needs
 returns-2 : tie.Need-returns-2 Inv-loop μ-loop
 returns-2 c =
     let l = c .before .before .before in
-    sym (l .loop .inv .1 ∙ ended-here _ (l .loop .i) (search needs) (c .if2 .taken))
+    sym (l .loop .inv .1 ∙ ended-here _ (l .loop .i) (search needs) (omega arith))
 
 add-i : tie.Need-add-i Inv-loop μ-loop
 add-i c = search needs

@@ -7,6 +7,20 @@ use Rattle.listing.specs.Listing.{space, field, positionList, heldFields
 use Rattle.listing.proofs.rounds.put_held.Statement.{statement}
 use Rattle.listing.proofs.rounds.put_held.Tie as tie
 
+-- ---- the text
+
+returns : tie.Need-returns
+unfolding heldFields
+returns c =
+    let at-put-positions = c .before .before in
+    let at-put-field3 = at-put-positions .before .before .before .before in
+    let at-put-field2 = at-put-field3 .before .before .before .before in
+    let at-put-field = at-put-field2 .before .before .before .before in
+    let s = at-put-field .before .before .before .before in
+    written-four (field (s .args .round .0) space) (field (s .args .hashes) space) (field (length (s .args .list .now)) space) (positionList (s .args .list .now)) (s .args .text .now) (s .args .at) _ _ (at-put-field .put-field .ensures) _ _ (at-put-field2 .put-field2 .ensures) _ _ (at-put-field3 .put-field3 .ensures) _ _ (at-put-positions .put-positions .ensures)
+
+-- ---- the room for each piece
+
 put-field-requires : tie.Need-put-field-requires
 unfolding heldFields
 put-field-requires c κs =
@@ -42,16 +56,6 @@ put-positions-requires c κs =
 
 same-length : tie.Need-same-length
 same-length c = search needs
-
-returns : tie.Need-returns
-unfolding heldFields
-returns c =
-    let at-put-positions = c .before .before in
-    let at-put-field3 = at-put-positions .before .before .before .before in
-    let at-put-field2 = at-put-field3 .before .before .before .before in
-    let at-put-field = at-put-field2 .before .before .before .before in
-    let s = at-put-field .before .before .before .before in
-    written-four (field (s .args .round .0) space) (field (s .args .hashes) space) (field (length (s .args .list .now)) space) (positionList (s .args .list .now)) (s .args .text .now) (s .args .at) _ _ (at-put-field .put-field .ensures) _ _ (at-put-field2 .put-field2 .ensures) _ _ (at-put-field3 .put-field3 .ensures) _ _ (at-put-positions .put-positions .ensures)
 
 pub put-held-spec : {M : Type 1} → statement M
 put-held-spec =
