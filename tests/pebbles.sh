@@ -226,5 +226,15 @@ unread "a directory" $?
 python3 tests/terminal.py broken 'optimal 2' "$program" >"$work/out" 2>"$work/err"
 unread "a read that fails behind a line" $?
 
+# ---- a listing that cannot be written
+
+printf 'optimal 2\n' | "$program" >/dev/full 2>"$work/err"
+if grep -q '^pebbles: the listing could not be written to standard output: ' "$work/err"; then
+    passed=$((passed + 1))
+else
+    failed=$((failed + 1))
+    echo "failed: a full device"
+fi
+
 echo "pebbles: $passed passed, $failed failed"
 [ "$failed" -eq 0 ]

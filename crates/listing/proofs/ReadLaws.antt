@@ -5,7 +5,7 @@ use mathlib.Core.List.{List, [], _∷_}
 use Prim.Native.Nat.{ℕ, suc, _+_, _≤_, _<_}
 use native.Mathlib.Numerals.{add-one}
 use native.Mathlib.Omega.{arith}
-use borrow.Author.Tests.{le-leb, lt-leb, eq-eqb, ne-eqb}
+use borrow.Author.Tests.{lt-leb, eq-eqb, ne-eqb}
 use lib.Dec.{eqb}
 use lib.ListN.{length, drop, getD, drop-of-length-le}
 use lib.Seq.{drop-cons}
@@ -45,11 +45,6 @@ unfolding reads
 reads-on line input i e m = rw (e, drop-of-length-le line {i = length line} (omega arith), drop-cons input (length line) 0 m) refl
 
 -- ---- a search for LF
-
--- there are eleven bytes, whatever they are
-pub decides-enough : (input : List ℕ) → 11 ≤ length input → decides input ≡ true
-unfolding decides
-decides-enough input h = rw (le-leb 11 (length input) h) refl
 
 -- fewer decide where LF is among them
 pub decides-few : (input : List ℕ) → length input < 11 → decides input ≡ ended input

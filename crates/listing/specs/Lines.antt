@@ -1,13 +1,13 @@
 -- Numbers in decimal, the lines that can be read, and how much of the input decides. Assumes nothing.
 use mathlib.Core.Path.{_≡_, refl, sym, ap, _∙_}
-use mathlib.Core.Bool.{Bool, true, false, _&&_, _||_}
+use mathlib.Core.Bool.{Bool, true, false, _&&_, _||_, or-true}
 use mathlib.Core.List.{List, [], _∷_, _++_}
 use mathlib.Core.Logic.{_⊎_, inl, inr}
 use Prim.Native.Nat.{ℕ, zero, suc, _/_, _%_, _^_, _≤_, _<_}
 use native.Mathlib.Omega.{arith}
-use borrow.Author.Tests.{lt-ltb, le-ltb, lt-leb, eqb-true, ne-eqb}
+use borrow.Author.Tests.{lt-ltb, le-ltb, le-leb, lt-leb, eqb-true, ne-eqb}
 use lib.Dec.{eqb, leb}
-use lib.ListN.{length, take, length-append}
+use lib.ListN.{length, take, drop, length-append, take-append-drop}
 use lib.Seq.{take-append-le}
 use Rattle.pebbling.specs.Len.{lt-or-le}
 use Rattle.listing.specs.Text.{bytes, digit, decimalIn, decimal}
@@ -165,3 +165,16 @@ rest-changes-nothing input more e = go (lt-or-le (length input) 11)
     go (inl h) = ended-by 44 input more (rw (lt-leb 11 (length input) h) at e)
     go (inr h) =
         sym (front-decides 11 (input ++ more) (omega arith)) ∙ ap listed (take-append-le 11 input more h) ∙ front-decides 11 input (omega arith)
+
+-- so the bytes read so far get the listing of the whole input
+pub read-enough : (n : ℕ) (input : List ℕ) → decides (take n input) ≡ true → listed (take n input) ≡ listed input
+read-enough n input e = sym (rest-changes-nothing (take n input) (drop n input) e) ∙ ap listed (take-append-drop n input)
+
+-- LF decides, wherever it stands, and so do eleven bytes, whatever they are: nobody waits for more
+pub decides-at-line-feed : (front rest : List ℕ) → decides (front ++ (lineFeed ∷ rest)) ≡ true
+unfolding decides ended
+decides-at-line-feed front rest = rw (ended-append front (lineFeed ∷ rest), or-true (ended front)) (or-true (leb 11 (length (front ++ (lineFeed ∷ rest)))))
+
+pub decides-at-eleven : (input : List ℕ) → 11 ≤ length input → decides input ≡ true
+unfolding decides
+decides-at-eleven input h = rw (le-leb 11 (length input) h) refl

@@ -7,9 +7,9 @@ use libc::STDOUT_FILENO;
 
 // What reading came to.
 enum Reading {
-    // So many bytes, with which the answer stands.
+    // So many bytes came: they decide, or the input ended behind them.
     Line(usize),
-    // A read failed.
+    // A read failed, which is not the end of the input.
     Failed,
 }
 
@@ -30,7 +30,8 @@ fn read_some(room: &mut [u8]) -> isize {
     -1
 }
 
-// Reads, a piece at a time, until the bytes decide or the input ends. A read may bring any number of bytes from one up.
+// Reads, a piece at a time, until the bytes decide or the input ends. A read may bring any number of bytes from one up. Where the room is
+// full there are `ENOUGH` bytes, which decide.
 fn read_line(input: &mut [u8]) -> Reading
     ensures { λ reading. ⌜ Within reading (now (input .exit)) ⌝ }
 {

@@ -5,7 +5,8 @@ use native.Mathlib.Omega.{arith}
 use borrow.Author.Needs.{needs}
 use lib.ListN.{length, drop}
 use Rattle.listing.specs.Listing.{ended, decides}
-use Rattle.listing.proofs.ReadLaws.{decides-enough, decides-few, ended-here, ended-later, ended-never}
+use Rattle.listing.specs.Lines.{decides-at-eleven}
+use Rattle.listing.proofs.ReadLaws.{decides-few, ended-here, ended-later, ended-never}
 use Rattle.listing.proofs.decides.Statement.{statement}
 use Rattle.listing.proofs.decides.Tie as tie
 
@@ -16,7 +17,7 @@ abbrev μ-loop : tie.MeasureT-loop
 μ-loop input i₀ i-end i = length input - i
 
 returns : tie.Need-returns Inv-loop μ-loop
-returns c = sym (decides-enough _ (omega arith))
+returns c = sym (decides-at-eleven _ (omega arith))
 
 loop-holds : tie.Need-loop-holds Inv-loop μ-loop
 loop-holds c = (omega arith, decides-few _ (omega arith))
