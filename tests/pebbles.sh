@@ -2,10 +2,11 @@
 # Runs the listing program on lines that it can read and lines that it cannot, and compares what it writes to the byte. Run it from the
 # repository's root, after `rt check pebbles`. What is right comes from the example of docs/RULES.md and from tests/pebbling.py, a model of the
 # recursion that was written from the rules alone. Prints a line for each case that failed and then the count; fails if any did.
-# A first argument names another program to try. A program that does not answer is ended after ten seconds, and its case has failed.
+# A first argument names another program to try, which this machine can run. A program that does not answer is ended after ten seconds,
+# and its case has failed.
 set -u
 
-program=${1:-target/bin/pebbles}
+program=${1:-$PWD/target/bin/pebbles}
 if ! [ -x "$program" ]; then
     echo "pebbles.sh: $program is not there; run 'rt check pebbles' first." >&2
     exit 2
@@ -20,6 +21,11 @@ done
 
 work=$(mktemp -d) || exit 2
 trap 'rm -rf "$work"' EXIT
+if [ $# -eq 0 ]; then
+    printf '#!/bin/sh\nexec "%s/tools/run" "%s"\n' "$PWD" "$program" >"$work/pebbles"
+    chmod +x "$work/pebbles"
+    program=$work/pebbles
+fi
 passed=0
 failed=0
 
