@@ -11,11 +11,12 @@ use lib.ListN.{length, drop, replicate, length-append, length-replicate}
 use lib.Pow.{pow-mono}
 use lib.Seq.{take-at, drop-at, drop-append-add}
 use Rattle.records.specs.Numbers.{number-read}
-use Rattle.records.specs.Chains.{chain-length}
-use Rattle.lists.specs.Values.{values, joined, values-joined, joined-length}
+use Rattle.lists.specs.Values.{values, joined}
 use Rattle.lists.specs.Writing.{over, over-length}
-use Rattle.oneway.specs.Step.{known, step}
+use Rattle.oneway.specs.Laws.{step-length}
+use Rattle.oneway.specs.Step.{known, width, step}
 use Rattle.pebbling.specs.Demands.{never-more-than-slots}
+use Rattle.pebbling.specs.OnBytes.{held-size, held-read}
 use Rattle.pebbling.specs.Recursion.{schedule, positions, chain}
 use Rattle.card.specs.declared.Head.{Head}
 use Rattle.card.specs.declared.Inspected.the-variants.{Card}
@@ -40,16 +41,15 @@ pub record Holding (head : Head) (vs : List (List ℕ)) : Type 0 where
   pub sized : length (joined vs) ≡ heldSize head
   pub cut : (rest : List ℕ) → values (widthOf head) (heldCount head) (joined vs ++ rest) ≡ vs
 
--- the chain at the positions held is such values
-pub chain-holding : (head : Head) (seed : List ℕ) → length seed ≡ widthOf head
+-- the chain at the positions held is such values, by the facts over every width
+pub chain-holding : (head : Head) (seed : List ℕ) → head .schedule ≤ 3 → length seed ≡ widthOf head
     → Holding head (map (chain (step (chainOf head)) seed) (positions (schedule (head .schedule)) (head .k) (head .round .0) 0))
 unfolding heldSize heldCount
-chain-holding head seed e =
-    let g = chain (step (chainOf head)) seed in
-    let ps = positions (schedule (head .schedule)) (head .k) (head .round .0) 0 in
+chain-holding head seed known e =
+    let c = chainOf head in
     record {
-      sized = joined-length (widthOf head) g (chain-length (chainOf head) seed e) ps;
-      cut = values-joined (widthOf head) g (chain-length (chainOf head) seed e) ps;
+      sized = held-size (width c) (step c) (step-length c) seed e (head .schedule) known (head .k) (head .round .0);
+      cut = held-read (width c) (step c) (step-length c) seed e (head .schedule) known (head .k) (head .round .0);
     }
 
 -- ---- the record

@@ -65,7 +65,7 @@ module _ (function k s : ℕ) (seed lent : List ℕ) (given : Given function k s
   numbered r = record { known = given .known; small = given .small; schedule = given .scheduled }
 
   holding : (r : ℕ) → Holding (head r) (vs r)
-  holding r = chain-holding (head r) seed (given .seeded)
+  holding r = chain-holding (head r) seed (given .scheduled) (given .seeded)
 
   long : (r : ℕ) → size (head r) ≤ length lent
   unfolding size slotsSize

@@ -1,5 +1,6 @@
 pub mod Bytes
 pub mod Writing
 pub mod Values
+pub mod Wide
 pub mod Parts
 pub mod Written

@@ -1,10 +1,10 @@
 -- Values of w bytes each, standing one behind another from the front of a list: what is read of the list's first w * n bytes as n values.
 -- Assumes nothing.
 use mathlib.Core.Path.{_≡_, refl, sym, ap, _∙_}
-use mathlib.Core.List.{List, [], _∷_, _++_, map, append-assoc}
+use mathlib.Core.List.{List, [], _∷_, _++_}
 use Prim.Native.Nat.{ℕ, zero, suc, _+_, _*_, _≤_, _<_}
 use native.Mathlib.Omega.{arith}
-use lib.ListN.{length, take, drop, length-append}
+use lib.ListN.{length, take, drop}
 use lib.Seq.{drop-drop, take-take, take-append-le, take-nil, take-at, drop-at, take-add}
 
 -- ---- definitions
@@ -98,21 +98,3 @@ joined-values w zero bytes = let e : w * 0 ≡ 0 = omega arith in rw e refl
 joined-values w (suc n) bytes =
     let e : w * suc n ≡ w + w * n = omega arith in
     rw (e, take-add w (w * n) bytes, joined-values w n (drop w bytes)) refl
-
--- values that each have w bytes
-module _ (w : ℕ) {A : Type 0} (g : A → List ℕ) (wide : (x : A) → length (g x) ≡ w) where
-  pub values-joined : (xs : List A) (rest : List ℕ) → values w (length xs) (joined (map g xs) ++ rest) ≡ map g xs
-  unfolding joined values
-  values-joined [] rest = refl
-  values-joined (x ∷ xs) rest =
-      rw (
-        append-assoc,
-        take-at (g x) (joined (map g xs) ++ rest) w (wide x),
-        drop-at (g x) (joined (map g xs) ++ rest) w (wide x),
-        values-joined xs rest,
-      ) refl
-
-  pub joined-length : (xs : List A) → length (joined (map g xs)) ≡ w * length xs
-  unfolding joined
-  joined-length [] = omega arith
-  joined-length (x ∷ xs) = length-append (g x) (joined (map g xs)) ∙ omega (arith, wide x, joined-length xs)

@@ -57,10 +57,13 @@ table =
     -- 7, 8: the hashes of one round, k = 4, speed-2 and rushing
     ∷ (work (schedule 2) 4 21 ∷ [], 3 ∷ [])
     ∷ (work (schedule 0) 4 23 ∷ [], 7 ∷ [])
-    -- 9: k = 0 runs one round and no second; position 0 is held and put out; no hash
+    -- 9: k = 0 runs one round and no second; position 0 is put out, and under each schedule held before it; no hash
     ∷ (length (running 0 1 0) ∷ length (running 0 2 0) ∷ [], 1 ∷ 0 ∷ [])
-    ∷ (positions (schedule 3) 0 1 0 ++ putOut 0 1 0, 0 ∷ 0 ∷ [])
-    ∷ (work (schedule 3) 0 1 ∷ [], 0 ∷ [])
+    ∷ (putOut 0 1 0, 0 ∷ [])
+    ∷ (positions (schedule 0) 0 1 0 ++ (work (schedule 0) 0 1 ∷ []), 0 ∷ 0 ∷ [])
+    ∷ (positions (schedule 1) 0 1 0 ++ (work (schedule 1) 0 1 ∷ []), 0 ∷ 0 ∷ [])
+    ∷ (positions (schedule 2) 0 1 0 ++ (work (schedule 2) 0 1 ∷ []), 0 ∷ 0 ∷ [])
+    ∷ (positions (schedule 3) 0 1 0 ++ (work (schedule 3) 0 1 ∷ []), 0 ∷ 0 ∷ [])
     -- 10: positions before rounds 11, 12 and 16, optimal, k = 3
     ∷ (positions (schedule 3) 3 11 0, 4 ∷ 1 ∷ 0 ∷ [])
     ∷ (positions (schedule 3) 3 12 0, 3 ∷ 2 ∷ 0 ∷ [])

@@ -18,7 +18,7 @@ use Rattle.pebbling.specs.OnePebbler.{places, places-snoc, places-upper,
 use Rattle.pebbling.specs.HashesDone.{Fair, done-first, done-suc, done-all, done-fits}
 use Rattle.pebbling.specs.PutOut.{positions-first}
 
-take-map : {A B : Type 0} (g : A → B) (s : List A) → take 1 (map g s) ≡ map g (take 1 s)
+pub take-map : {A B : Type 0} (g : A → B) (s : List A) → take 1 (map g s) ≡ map g (take 1 s)
 take-map g [] = refl
 take-map g (x ∷ s) = refl
 

@@ -17,6 +17,7 @@ pub mod Totals
 pub mod OptimalWork
 pub mod Slots
 pub mod Countdown
+pub mod OnBytes
 pub mod Demands
 pub mod Promises
 pub mod PositionList

@@ -8,6 +8,7 @@ use Rattle.oneway.specs.declared.Chain.{Chain}
 use Rattle.oneway.specs.Step.{width, step}
 use Rattle.oneway.specs.Laws.{step-length}
 use Rattle.pebbling.specs.Recursion.{chain}
+use Rattle.pebbling.specs.OnBytes.{element-wide}
 
 -- m steps and n more
 pub chain-add : (f : List ℕ → List ℕ) (x : List ℕ) (m n : ℕ) → chain f x (m + n) ≡ chain f (chain f x m) n
@@ -17,6 +18,4 @@ chain-add f x m (suc n) = let e : m + suc n ≡ suc (m + n) = omega arith in rw 
 
 -- each element of a chain has the chain's width
 pub chain-length : (c : Chain) (seed : List ℕ) → length seed ≡ width c → (n : ℕ) → length (chain (step c) seed n) ≡ width c
-unfolding chain
-chain-length c seed e zero = e
-chain-length c seed e (suc n) = step-length c (chain (step c) seed n) (chain-length c seed e n)
+chain-length c seed e = element-wide (width c) (step c) (step-length c) seed e
