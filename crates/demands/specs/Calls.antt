@@ -2,15 +2,15 @@
 -- other buffers, as firmware does that keeps two records and a flag. After any list of such events the record is the one that the recursion
 -- gives for the round that comes next, over the buffer that was lent last. So a further call says and writes what is demanded of that round
 -- (crates/card/specs/Demands.antt), and a refused round leaves the card as if it had not been called. Assumes nothing.
-use mathlib.Core.Path.{_≡_, refl, sym, ap, _∙_}
-use mathlib.Core.Bool.{Bool, true, false, cond, _&&_}
+use mathlib.Core.Path.{_≡_, refl, sym, ap, subst, _∙_}
+use mathlib.Core.Bool.{cond}
 use mathlib.Core.Logic.{_⊎_, inl, inr}
 use mathlib.Core.List.{List, [], _∷_, _++_, map}
-use Prim.Native.Nat.{ℕ, suc, _+_, _-_, _/_, _^_, _≤_, _<_}
+use Prim.Native.Nat.{ℕ, suc, _+_, _-_, _/_, _^_, _≤_, _<_, min}
 use native.Mathlib.Nat.{eq-or-lt-of-le}
 use native.Mathlib.Omega.{arith}
-use borrow.Author.Tests.{eq-eqb, ne-eqb, lt-ltb, le-ltb, le-leb, lt-leb}
-use lib.Dec.{leb, ltb}
+use borrow.Author.Tests.{eq-eqb, ne-eqb, lt-ltb, le-leb, lt-leb}
+use lib.Dec.{leb}
 use lib.ListN.{length, take, drop}
 use lib.Pow.{pow-pos}
 use lib.Seq.{take-at}
@@ -47,16 +47,15 @@ lentLast lent (copied to ∷ events) = lentLast to events
 abbrev pub chainOf : ℕ → Chain
 chainOf function = record { function = function }
 
-module _ (function k : ℕ) where
-  -- whether a call counts as a round, where round r comes next: a round is left, and the out buffer has room for a value
-  unfoldable pub counts : ℕ → List ℕ → Bool
-  counts r out = ltb r (2 ^ suc k) && leb (width (chainOf function)) (length out)
+-- the calls that were lent an out buffer with room for a value of the function
+unfoldable pub wideCalls : ℕ → List Event → ℕ
+wideCalls function [] = 0
+wideCalls function (called out ∷ events) = cond (leb (width (chainOf function)) (length out)) 1 0 + wideCalls function events
+wideCalls function (copied to ∷ events) = wideCalls function events
 
-  -- the round that comes next after the events, where round r came next before them
-  unfoldable pub nextRound : ℕ → List Event → ℕ
-  nextRound r [] = r
-  nextRound r (called out ∷ events) = nextRound (cond (counts r out) (suc r) r) events
-  nextRound r (copied to ∷ events) = nextRound r events
+-- the round that comes next after a start and the events: each such call runs one, until round 2^(k+1) comes next, which none runs
+unfoldable pub nextRound : ℕ → ℕ → List Event → ℕ
+nextRound function k events = min (1 + wideCalls function events) (2 ^ suc k)
 
 module _ (function k s : ℕ) where
   -- the bytes of the card's record
@@ -98,38 +97,25 @@ refused-round-counts-for-nothing function k s card first then out refusal says =
 
 -- ---- one event
 
--- the round that comes next is one of the card's, or the one after them
-next-counted : (function k r : ℕ) (out : List ℕ) → 0 < r → r ≤ 2 ^ suc k
-    → (0 < cond (counts function k r out) (suc r) r) × (cond (counts function k r out) (suc r) r ≤ 2 ^ suc k)
-unfolding counts
-next-counted function k r out from upto = go (eq-or-lt-of-le upto)
-  where
-    by : (b : Bool) → r < 2 ^ suc k → (0 < cond b (suc r) r) × (cond b (suc r) r ≤ 2 ^ suc k)
-    by true less = (omega arith, less)
-    by false less = (from, upto)
-
-    go : (r ≡ 2 ^ suc k) ⊎ (r < 2 ^ suc k) → (0 < cond (counts function k r out) (suc r) r) × (cond (counts function k r out) (suc r) r ≤ 2 ^ suc k)
-    go (inl spent) = rw (le-ltb r (2 ^ suc k) (omega arith)) (from, upto)
-    go (inr less) = by (counts function k r out) less
-
 module _ (function k s : ℕ) (seed lent : List ℕ) (given : Given function k s seed lent) where
   abbrev kept : ℕ → List ℕ
   kept = recordAt function k s seed lent
-
-  -- another buffer that is long enough does as well
-  given-in : (to : List ℕ) → recordSize function k s ≤ length to → Given function k s seed to
-  given-in to long =
-      record { known = given .known; small = given .small; scheduled = given .scheduled; seeded = given .seeded; long = long }
 
   copy-leaves : (r : ℕ) (to : List ℕ) → 0 < r → r ≤ 2 ^ suc k → over (take (recordSize function k s) (kept r)) to ≡ recordAt function k s seed to r
   unfolding size slotsSize
   copy-leaves r to from upto =
       let head = headAt function k s r in
       let vs = map (chain (step (chainOf function)) seed) (positions (schedule s) k r 0) in
-      let own : length (cardBytes head vs) ≡ recordSize function k s =
+      let own : length (cardBytes head vs) ≡ size head =
       card-length head vs (record { known = given .known; small = given .small; schedule = given .scheduled }) from upto
       (chain-holding head seed (given .scheduled) (given .seeded)) in
-      ap (λ (b : List ℕ). over b to) (take-at (cardBytes head vs) (drop (length (cardBytes head vs)) lent) (recordSize function k s) own)
+      ap (λ (b : List ℕ). over b to)
+      (take-at (cardBytes head vs) (drop (length (cardBytes head vs)) lent) (recordSize function k s) (omega (arith, own)))
+
+  -- another buffer that is long enough does as well
+  given-in : (to : List ℕ) → recordSize function k s ≤ length to → Given function k s seed to
+  given-in to room =
+      record { known = given .known; small = given .small; scheduled = given .scheduled; seeded = given .seeded; long = omega arith }
 
   spent-says : (out : List ℕ) (r : ℕ) → r ≡ 2 ^ suc k → roundMustSay (kept r) out ≡ saidOf Spent
   unfolding roundMustSay roundJudged ready
@@ -145,21 +131,11 @@ module _ (function k s : ℕ) (seed lent : List ℕ) (given : Given function k s
         lt-ltb (length out) (width (chainOf function)) short,
       ) refl
 
-  call-leaves : (out : List ℕ) (r : ℕ) → 0 < r → r ≤ 2 ^ suc k → roundCard (kept r) out ≡ kept (cond (counts function k r out) (suc r) r)
-  unfolding counts
-  call-leaves out r from upto = go (eq-or-lt-of-le upto) (lt-or-le (length out) (width (chainOf function)))
-    where
-      go : (r ≡ 2 ^ suc k) ⊎ (r < 2 ^ suc k) → (length out < width (chainOf function)) ⊎ (width (chainOf function) ≤ length out)
-          → roundCard (kept r) out ≡ kept (cond (counts function k r out) (suc r) r)
-      go (inl spent) room =
-          round-says-refused-changes-nothing Spent (kept r) out (spent-says out r spent) .0
-          ∙ rw (le-ltb r (2 ^ suc k) (omega arith)) refl
-      go (inr less) (inl short) =
-          round-says-refused-changes-nothing WrongLength (kept r) out (short-says out r from less short) .0
-          ∙ rw (lt-ltb r (2 ^ suc k) less, lt-leb (width (chainOf function)) (length out) short) refl
-      go (inr less) (inr wide) =
-          round-leaves function k s seed lent given r out from less wide
-          ∙ rw (lt-ltb r (2 ^ suc k) less, le-leb (width (chainOf function)) (length out) wide) refl
+  spent-leaves : (out : List ℕ) (r : ℕ) → r ≡ 2 ^ suc k → roundCard (kept r) out ≡ kept r
+  spent-leaves out r spent = round-says-refused-changes-nothing Spent (kept r) out (spent-says out r spent) .0
+
+  short-leaves : (out : List ℕ) (r : ℕ) → 0 < r → r < 2 ^ suc k → length out < width (chainOf function) → roundCard (kept r) out ≡ kept r
+  short-leaves out r from less short = round-says-refused-changes-nothing WrongLength (kept r) out (short-says out r from less short) .0
 
 -- ---- a list of events
 
@@ -170,21 +146,42 @@ module _ (function k s : ℕ) (seed : List ℕ) where
     given : Given function k s seed lent
     holds : card ≡ recordAt function k s seed lent r
 
+  -- a call, and what it counts for whatever comes after it
+  call-stands : (card lent : List ℕ) (r : ℕ) → Standing card lent r → (out : List ℕ)
+      → (next : ℕ) × Standing (roundCard card out) lent next
+      × ((n : ℕ) → min (next + n) (2 ^ suc k) ≡ min (r + (cond (leb (width (chainOf function)) (length out)) 1 0 + n)) (2 ^ suc k))
+  call-stands card lent r now out = go (eq-or-lt-of-le (now .upto)) (lt-or-le (length out) (width (chainOf function)))
+    where
+      called-on : {b : List ℕ} → roundCard (recordAt function k s seed lent r) out ≡ b → roundCard card out ≡ b
+      called-on e = ap (λ (b : List ℕ). roundCard b out) (now .holds) ∙ e
+
+      go : (r ≡ 2 ^ suc k) ⊎ (r < 2 ^ suc k) → (length out < width (chainOf function)) ⊎ (width (chainOf function) ≤ length out)
+          → (next : ℕ) × Standing (roundCard card out) lent next
+          × ((n : ℕ) → min (next + n) (2 ^ suc k) ≡ min (r + (cond (leb (width (chainOf function)) (length out)) 1 0 + n)) (2 ^ suc k))
+      go (inl spent) room = (
+        r,
+        record { from = now .from; upto = now .upto; given = now .given; holds = called-on (spent-leaves function k s seed lent (now .given) out r spent) },
+        λ n. omega arith,
+      )
+      go (inr less) (inl short) = (
+        r,
+        record { from = now .from; upto = now .upto; given = now .given; holds = called-on (short-leaves function k s seed lent (now .given) out r (now .from) less short) },
+        λ n. rw (lt-leb (width (chainOf function)) (length out) short) (omega arith),
+      )
+      go (inr less) (inr wide) = (
+        suc r,
+        record { from = omega arith; upto = less; given = now .given; holds = called-on (round-leaves function k s seed lent (now .given) r out (now .from) less wide) },
+        λ n. rw (le-leb (width (chainOf function)) (length out) wide) (omega arith),
+      )
+
   stands : (card lent : List ℕ) (r : ℕ) → Standing card lent r → (events : List Event) → LongEnough function k s events
-      → Standing (cardAfter function k s card events) (lentLast lent events) (nextRound function k r events)
-  unfolding cardAfter lentLast nextRound
-  stands card lent r now [] none = now
+      → Standing (cardAfter function k s card events) (lentLast lent events) (min (r + wideCalls function events) (2 ^ suc k))
+  unfolding cardAfter lentLast wideCalls
+  stands card lent r now [] none = let e : min (r + 0) (2 ^ suc k) ≡ r = omega (arith, now .upto) in rw e now
   stands card lent r now (called out ∷ events) (call long) =
-      let next = next-counted function k r out (now .from) (now .upto) in
-      stands (roundCard card out) lent (cond (counts function k r out) (suc r) r)
-      (record {
-        from = next .0;
-        upto = next .1;
-        given = now .given;
-        holds = ap (λ (b : List ℕ). roundCard b out) (now .holds) ∙ call-leaves function k s seed lent (now .given) out r (now .from) (now .upto);
-      })
-      events
-      long
+      let next = call-stands card lent r now out in
+      subst (λ (n : ℕ). Standing (cardAfter function k s (roundCard card out) events) (lentLast lent events) n) (next .2 (wideCalls function events))
+      (stands (roundCard card out) lent (next .0) (next .1) events long)
   stands card lent r now (copied to ∷ events) (copy room long) =
       stands (over (take (recordSize function k s) card) to) to r
       (record {
@@ -209,9 +206,10 @@ module _ (function k s : ℕ) (seed lent : List ℕ) (given : Given function k s
   last = lentLast lent events
 
   abbrev r : ℕ
-  r = nextRound function k 1 events
+  r = nextRound function k events
 
   standing : Standing function k s seed card last r
+  unfolding nextRound
   standing =
       stands function k s seed (startCard function k s seed lent) lent 1
       (record { from = omega arith; upto = omega (arith, pow-pos (suc k)); given = given; holds = start-leaves function k s seed lent given })
