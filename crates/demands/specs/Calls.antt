@@ -47,10 +47,14 @@ lentLast lent (copied to ∷ events) = lentLast to events
 abbrev pub chainOf : ℕ → Chain
 chainOf function = record { function = function }
 
--- the calls that were lent an out buffer with room for a value of the function
+-- what a call counts for: 1 where its out buffer has room for a value of the function, and otherwise 0
+unfoldable pub counted : ℕ → List ℕ → ℕ
+counted function out = cond (leb (width (chainOf function)) (length out)) 1 0
+
+-- the calls with such an out buffer
 unfoldable pub wideCalls : ℕ → List Event → ℕ
 wideCalls function [] = 0
-wideCalls function (called out ∷ events) = cond (leb (width (chainOf function)) (length out)) 1 0 + wideCalls function events
+wideCalls function (called out ∷ events) = counted function out + wideCalls function events
 wideCalls function (copied to ∷ events) = wideCalls function events
 
 -- the round that comes next after a start and the events: each such call runs one, until round 2^(k+1) comes next, which none runs
@@ -149,7 +153,8 @@ module _ (function k s : ℕ) (seed : List ℕ) where
   -- a call, and what it counts for whatever comes after it
   call-stands : (card lent : List ℕ) (r : ℕ) → Standing card lent r → (out : List ℕ)
       → (next : ℕ) × Standing (roundCard card out) lent next
-      × ((n : ℕ) → min (next + n) (2 ^ suc k) ≡ min (r + (cond (leb (width (chainOf function)) (length out)) 1 0 + n)) (2 ^ suc k))
+      × ((n : ℕ) → min (next + n) (2 ^ suc k) ≡ min (r + (counted function out + n)) (2 ^ suc k))
+  unfolding counted
   call-stands card lent r now out = go (eq-or-lt-of-le (now .upto)) (lt-or-le (length out) (width (chainOf function)))
     where
       called-on : {b : List ℕ} → roundCard (recordAt function k s seed lent r) out ≡ b → roundCard card out ≡ b
@@ -157,7 +162,7 @@ module _ (function k s : ℕ) (seed : List ℕ) where
 
       go : (r ≡ 2 ^ suc k) ⊎ (r < 2 ^ suc k) → (length out < width (chainOf function)) ⊎ (width (chainOf function) ≤ length out)
           → (next : ℕ) × Standing (roundCard card out) lent next
-          × ((n : ℕ) → min (next + n) (2 ^ suc k) ≡ min (r + (cond (leb (width (chainOf function)) (length out)) 1 0 + n)) (2 ^ suc k))
+          × ((n : ℕ) → min (next + n) (2 ^ suc k) ≡ min (r + (counted function out + n)) (2 ^ suc k))
       go (inl spent) room = (
         r,
         record { from = now .from; upto = now .upto; given = now .given; holds = called-on (spent-leaves function k s seed lent (now .given) out r spent) },

@@ -1,13 +1,15 @@
 -- Bytes behind a card's record are neither read nor written, by a start, by a round or by many rounds. The record may be damaged: all that is
 -- asked is that its own bytes are as many as its own head says (`Whole`). Assumes nothing.
 use mathlib.Core.Path.{_≡_, refl, sym, ap, _∙_}
+use mathlib.Core.Bool.{Bool, true, false, cond}
 use mathlib.Core.Logic.{_⊎_, inl, inr}
-use mathlib.Core.List.{List, [], _∷_, _++_, map}
-use Prim.Native.Nat.{ℕ, suc, _+_, _-_, _*_, _^_, _≤_, _<_}
+use mathlib.Core.List.{List, [], _∷_, _++_}
+use Prim.Native.Nat.{ℕ, suc, _+_, _-_, _*_, _^_, _≤_, _<_, max}
 use native.Mathlib.Nat.{mul-le-mul-left}
 use native.Mathlib.Omega.{arith}
 use borrow.Author.Tests.{le-ltb}
-use lib.ListN.{length, take, drop, getD, length-drop, List·getD-append}
+use lib.Dec.{eqb}
+use lib.ListN.{length, take, drop, getD, length-append, length-drop, length-replicate, List·getD-append}
 use lib.Seq.{drop-append-le}
 use Rattle.lists.specs.Values.{values, joined, values-length, values-front}
 use Rattle.lists.specs.Wide.{Wide, wide-values, joined-cut}
@@ -18,17 +20,16 @@ use Rattle.pebbling.specs.Demands.{never-more-than-slots}
 use Rattle.pebbling.specs.HashesDone.{fair}
 use Rattle.pebbling.specs.Len.{lt-or-le}
 use Rattle.pebbling.specs.OnBytes.{round-wide, round-size}
-use Rattle.pebbling.specs.Recursion.{schedule, positions, round, chain}
+use Rattle.pebbling.specs.Recursion.{schedule, positions, round, slots}
 use Rattle.pebbling.specs.RoundLength.{round-length}
 use Rattle.card.specs.declared.Head.{Head}
 use Rattle.card.specs.declared.Inspected.{Inspected}
 use Rattle.card.specs.declared.Inspected.the-variants.{Refused, Card}
-use Rattle.card.specs.Record.{chainOf, widthOf, heldCount, heldSize, slotsSize, size, cardBytes, headOf, heldValues, freeSlots, laidOut}
+use Rattle.card.specs.Record.{chainOf, widthOf, heldCount, heldSize, slotsSize, size, headBytes, filled, cardBytes, headOf, heldValues, freeSlots, laidOut}
 use Rattle.card.specs.Refused.{later, passing, numbers, roomFor, startJudged, inspectSlots, inspectOf, ready, roundJudged}
-use Rattle.card.specs.Promises.{first, judgedStartSays, startMustSay, startCard, judgedRoundSays, judgedRoundCard, judgedRoundOut, roundMustSay, roundCard, roundOut}
+use Rattle.card.specs.Promises.{first, judgedStartSays, judgedStartCard, startMustSay, startCard, judgedRoundSays, judgedRoundCard, judgedRoundOut, roundMustSay, roundCard, roundOut}
 use Rattle.card.specs.Sound.{Numbered, numbers-same, numbers-known, Startable, startable, Sound, runs}
-use Rattle.card.specs.Kept.{Holding, chain-holding, card-length, headed-back}
-use Rattle.card.specs.Run.{headAt, Given, start-leaves}
+use Rattle.card.specs.Kept.{Holding, card-length, headed-back}
 use Rattle.demands.specs.Front.{longer, part-front, over-front}
 
 -- ---- definitions
@@ -98,7 +99,7 @@ module _ (own : List ℕ) (head : Head) (sound : Sound own head) (less : head .r
       let l : length (over (cardBytes (later head) left) own) ≡ length own = over-length (cardBytes (later head) left) own left-within in
       let h : headOf (over (cardBytes (later head) left) own) ≡ later head =
       headed-back (later head) left later-numbered (omega arith) less left-holding own (sound .long) in
-      record { headed = omega (arith, sound .long); slotted = λ n. rw (h, l) (sound .long) }
+      record { headed = omega (arith, sound .long); slotted = λ n. rw (h, l) (omega (arith, sound .long)) }
 
   module _ (rest : List ℕ) where
     values-same : heldValues head (own ++ rest) ≡ heldValues head own
@@ -111,7 +112,7 @@ module _ (own : List ℕ) (head : Head) (sound : Sound own head) (less : head .r
 
 pub whole-by-its-head : (own : List ℕ) → size (headOf own) ≤ length own → Whole own
 unfolding size
-whole-by-its-head own long = record { headed = omega arith; slotted = λ n. long }
+whole-by-its-head own long = record { headed = omega arith; slotted = λ n. omega arith }
 
 module _ (own rest : List ℕ) (whole : Whole own) where
   byte : (n : ℕ) → n < 16 → getD (own ++ rest) n 0 ≡ getD own n 0
@@ -219,3 +220,47 @@ same-record-same-answer own rest₁ rest₂ out whole = (
   round-says-the-same own rest₁ whole out ∙ sym (round-says-the-same own rest₂ whole out),
   round-writes-the-same own rest₁ whole out ∙ sym (round-writes-the-same own rest₂ whole out),
 )
+
+-- ---- start
+
+some-slot : (s k : ℕ) → 1 ≤ slots s k
+unfolding slots
+some-slot s k = go (eqb s 1)
+  where
+    go : (b : Bool) → 1 ≤ cond b (max (k + 1) (2 * k - 2)) (k + 1)
+    go true = omega arith
+    go false = omega arith
+
+module _ (function k s : ℕ) (seed own rest : List ℕ) (long : size (first function k s) ≤ length own) where
+  start-judged-same : startJudged (first function k s) seed (own ++ rest) ≡ startJudged (first function k s) seed own
+  unfolding startJudged
+  start-judged-same = go (numbers (first function k s)) refl
+    where
+      room-same : roomFor seed (own ++ rest) (first function k s) ≡ roomFor seed own (first function k s)
+      room-same =
+          let h = size (first function k s) in
+          unfold roomFor in
+          rw (le-ltb (length (own ++ rest)) h (longer own rest h long), le-ltb (length own) h long) refl
+
+      go : (seen : Inspected) → numbers (first function k s) ≡ seen → passing seen (roomFor seed (own ++ rest)) ≡ passing seen (roomFor seed own)
+      go (Refused x) q = refl
+      go (Card g) q = rw (← numbers-same (first function k s) g q) room-same
+
+  pub start-says-the-same : startMustSay function k s seed (own ++ rest) ≡ startMustSay function k s seed own
+  unfolding startMustSay
+  start-says-the-same = ap judgedStartSays start-judged-same
+
+  -- the record of round 1 has a record's bytes
+  started-within : (head : Head) → Startable seed own head → length (cardBytes head (seed ∷ [])) ≤ length own
+  unfolding cardBytes headBytes filled joined size slotsSize
+  started-within head ok =
+      let fits = mul-le-mul-left (widthOf head) (some-slot (head .schedule) (head .k)) in
+      simp (length-append, length-replicate) (omega (arith, fits, ok .seeded, ok .long))
+
+  pub start-leaves-the-same : startCard function k s seed (own ++ rest) ≡ startCard function k s seed own ++ rest
+  unfolding startCard
+  start-leaves-the-same = rw start-judged-same (go (startJudged (first function k s) seed own) refl)
+    where
+      go : (seen : Inspected) → startJudged (first function k s) seed own ≡ seen → judgedStartCard seed (own ++ rest) seen ≡ judgedStartCard seed own seen ++ rest
+      go (Refused x) q = refl
+      go (Card head) q = over-front own rest (cardBytes head (seed ∷ [])) (started-within head (startable (first function k s) seed own head q))

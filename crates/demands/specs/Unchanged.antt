@@ -99,20 +99,24 @@ module _ (refusal : Refusal) where
           by (At g) says leaves = absurd (not-refused refusal _ says)
           by Nothing says leaves = leaves
 
--- ---- the exported functions: a word whose bits 0-7 are not 0 is a refusal's
+-- ---- the exported functions: a word with a refusal's number
 
--- an answer's word has 0 in these bits, or the answer is a refusal
+-- bits 0-7: the refusal's number, 0 for none
+abbrev pub numberIn : ℕ → ℕ
+numberIn word = word % 2 ^ 8
+
+-- an answer's word has 0 there, or the answer is a refusal
 abbrev ZeroOrRefused : {A : Type 0} → (A → ℕ) → (Refusal → A) → A → Type 0
-ZeroOrRefused worded refused answer = (worded answer % 2 ^ 8 ≡ 0) ⊎ ((refusal : Refusal) × (answer ≡ refused refusal))
+ZeroOrRefused worded refused answer = (numberIn (worded answer) ≡ 0) ⊎ ((refusal : Refusal) × (answer ≡ refused refusal))
 
 -- what holds where the call's own answer is a refusal holds where its word is a refusal's
 through-the-word : {A : Type 0} (worded : A → ℕ) (refused : Refusal → A) → ((answer : A) → ZeroOrRefused worded refused answer)
     → (Keeps : A → Type 0) (Same : Type 0) → ((refusal : Refusal) → Keeps (refused refusal) → Same)
-    → (word : ℕ) → Exported worded Keeps word → (word % 2 ^ 8 ≡ 0 → ⊥) → Same
+    → (word : ℕ) → Exported worded Keeps word → (numberIn word ≡ 0 → ⊥) → Same
 through-the-word worded refused kinds Keeps Same law word call not-0 = go (kinds (call .answer))
   where
     go : ZeroOrRefused worded refused (call .answer) → Same
-    go (inl zero) = absurd (not-0 (ap (λ (w : ℕ). w % 2 ^ 8) (call .is) ∙ zero))
+    go (inl zero) = absurd (not-0 (ap numberIn (call .is) ∙ zero))
     go (inr (refusal, is)) = law refusal (rw is at (call .kept))
 
 done-kinds : (answer : Answer) → ZeroOrRefused doneWord Refused answer
@@ -136,7 +140,7 @@ offer-kinds : (answer : OfferAnswer) → ZeroOrRefused offerWord NoCredit answer
 offer-kinds (Credited ticks) = inl (omega arith)
 offer-kinds (NoCredit refusal) = inr (refusal, refl)
 
-module _ (word : ℕ) (refused : word % 2 ^ 8 ≡ 0 → ⊥) where
+module _ (word : ℕ) (refused : numberIn word ≡ 0 → ⊥) where
   pub start-word-refused-changes-nothing : (function k schedule : ℕ) (seed card card′ : List ℕ)
       → Exported doneWord (λ a. Started function k schedule seed card a card′) word → card′ ≡ card
   start-word-refused-changes-nothing function k schedule seed card card′ call =
