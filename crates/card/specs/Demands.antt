@@ -27,7 +27,7 @@ use Rattle.card.specs.Record.{widthOf, heldCount, cardBytes}
 use Rattle.card.specs.Refused.{anchorJudged, later, inspectOf, ready, roundJudged}
 use Rattle.card.specs.Promises.{startMustSay, startCard, tickOrQuiet, judgedRoundSays, roundMustSay, roundOut, anchorOut}
 use Rattle.card.specs.Sound.{Sound, sound, held-later}
-use Rattle.card.specs.Run.{headAt, Given, after, recordAt, start-passes, head-read, round-passes, round-puts-out, after-holds}
+use Rattle.card.specs.Run.{headAt, Given, after, recordAt, start-passes, spent-says, round-passes, round-puts-out, after-holds}
 
 module _ (function k s : ℕ) (seed lent : List ℕ) (given : Given function k s seed lent) where
   abbrev c : Chain
@@ -98,10 +98,9 @@ module _ (function k s : ℕ) (seed lent : List ℕ) (given : Given function k s
 
     -- when all rounds are run, the next one is refused, whatever out buffer it is lent
     pub spent-card-says-6 : (r : ℕ) (out : List ℕ) → r ≡ 2 ^ suc k → roundMustSay (after function k s seed lent outs (r - 1)) out ≡ 6 ∷ []
-    unfolding roundMustSay roundJudged ready
     spent-card-says-6 r out e =
-        let from : 0 < r = omega (arith, pow-pos (suc k)) in
-        rw (holds r from (omega arith), head-read function k s seed lent given r from (omega arith), eq-eqb r (2 ^ suc k) e) refl
+        ap (λ (b : List ℕ). roundMustSay b out) (holds r (omega (arith, pow-pos (suc k))) (omega arith))
+        ∙ spent-says function k s seed lent given r out e
 
   -- ---- anchor
 

@@ -5,7 +5,7 @@ use mathlib.Core.Bool.{true}
 use mathlib.Core.List.{List, map}
 use Prim.Native.Nat.{ℕ, zero, suc, _-_, _^_, _≤_, _<_}
 use native.Mathlib.Omega.{arith}
-use borrow.Author.Tests.{eq-eqb, le-ltb}
+use borrow.Author.Tests.{eq-eqb, ne-eqb, lt-ltb, le-ltb}
 use lib.ListN.{length}
 use lib.Pow.{pow-pos}
 use Rattle.lists.specs.Values.{joined}
@@ -14,11 +14,13 @@ use Rattle.oneway.specs.Step.{known, width, step}
 use Rattle.oneway.specs.declared.Chain.{Chain}
 use Rattle.pebbling.specs.Demands.{round-moves-the-chain, card-holds-the-chain}
 use Rattle.pebbling.specs.Recursion.{schedule, positions, tick, round, before, chain}
+use Rattle.refusals.specs.Numbers.{saidOf}
+use Rattle.refusals.specs.declared.Refusal.the-variants.{WrongLength, Spent}
 use Rattle.card.specs.declared.Head.{Head}
 use Rattle.card.specs.declared.Inspected.the-variants.{Card}
 use Rattle.card.specs.Record.{slotsSize, size, cardBytes, heldValues}
-use Rattle.card.specs.Refused.{numbers, roomFor, startJudged, inspectOf, roundJudged}
-use Rattle.card.specs.Promises.{startCard, roundCard, roundOut}
+use Rattle.card.specs.Refused.{numbers, roomFor, startJudged, inspectOf, ready, roundJudged}
+use Rattle.card.specs.Promises.{startCard, roundMustSay, roundCard, roundOut}
 use Rattle.card.specs.Sound.{Numbered, ready-passes}
 use Rattle.card.specs.Kept.{over-over, Holding, chain-holding, card-length, inspected, values-back}
 
@@ -91,7 +93,22 @@ module _ (function k s : ℕ) (seed lent : List ℕ) (given : Given function k s
       → heldValues (headAt function k s r) (recordAt function k s seed lent r) ≡ map (chain (step c) seed) (positions (schedule s) k r 0)
   values-read r from upto = values-back (head r) (vs r) (numbered r) from upto (holding r) lent (long r)
 
-  -- it refuses nothing
+  -- it refuses the record with 6 when all rounds are run, and before that with 4 an out buffer that is too short
+  pub spent-says : (r : ℕ) (out : List ℕ) → r ≡ 2 ^ suc k → roundMustSay (recordAt function k s seed lent r) out ≡ saidOf Spent
+  unfolding roundMustSay roundJudged ready
+  spent-says r out e = rw (head-read r (omega (arith, pow-pos (suc k))) (omega arith), eq-eqb r (2 ^ suc k) e) refl
+
+  pub short-says : (r : ℕ) (out : List ℕ) → 0 < r → r < 2 ^ suc k → length out < width c
+      → roundMustSay (recordAt function k s seed lent r) out ≡ saidOf WrongLength
+  unfolding roundMustSay roundJudged ready
+  short-says r out from less short =
+      rw (
+        head-read r from (omega arith),
+        ne-eqb r (2 ^ suc k) (λ e. omega arith),
+        lt-ltb (length out) (width c) short,
+      ) refl
+
+  -- and otherwise nothing
   pub round-passes : (r : ℕ) (out : List ℕ) → 0 < r → r < 2 ^ suc k → width c ≤ length out
       → roundJudged (recordAt function k s seed lent r) out ≡ Card (headAt function k s r)
   unfolding roundJudged

@@ -9,7 +9,7 @@ use mathlib.Core.List.{List, [], _∷_, _++_, map}
 use Prim.Native.Nat.{ℕ, suc, _+_, _-_, _/_, _^_, _≤_, _<_, min}
 use native.Mathlib.Nat.{eq-or-lt-of-le}
 use native.Mathlib.Omega.{arith}
-use borrow.Author.Tests.{eq-eqb, ne-eqb, lt-ltb, le-leb, lt-leb}
+use borrow.Author.Tests.{le-leb, lt-leb}
 use lib.Dec.{leb}
 use lib.ListN.{length, take, drop}
 use lib.Pow.{pow-pos}
@@ -23,10 +23,9 @@ use Rattle.refusals.specs.Numbers.{saidOf}
 use Rattle.refusals.specs.declared.Refusal.{Refusal}
 use Rattle.refusals.specs.declared.Refusal.the-variants.{WrongLength, Spent}
 use Rattle.card.specs.Record.{slotsSize, size, cardBytes}
-use Rattle.card.specs.Refused.{ready, roundJudged}
 use Rattle.card.specs.Promises.{startCard, roundMustSay, roundCard, roundOut}
 use Rattle.card.specs.Kept.{chain-holding, card-length}
-use Rattle.card.specs.Run.{headAt, Given, after, recordAt, head-read, start-leaves, round-leaves, after-holds}
+use Rattle.card.specs.Run.{headAt, Given, after, recordAt, spent-says, short-says, start-leaves, round-leaves, after-holds}
 use Rattle.card.specs.Demands.{preparing-round-says, preparing-round-writes-nothing, paying-round-says, paying-round-pays, optimal-paying-round-is-short}
 use Rattle.demands.specs.Unchanged.{round-says-refused-changes-nothing}
 
@@ -121,25 +120,11 @@ module _ (function k s : ℕ) (seed lent : List ℕ) (given : Given function k s
   given-in to room =
       record { known = given .known; small = given .small; scheduled = given .scheduled; seeded = given .seeded; long = omega arith }
 
-  spent-says : (out : List ℕ) (r : ℕ) → r ≡ 2 ^ suc k → roundMustSay (kept r) out ≡ saidOf Spent
-  unfolding roundMustSay roundJudged ready
-  spent-says out r e =
-      rw (head-read function k s seed lent given r (omega (arith, pow-pos (suc k))) (omega arith), eq-eqb r (2 ^ suc k) e) refl
-
-  short-says : (out : List ℕ) (r : ℕ) → 0 < r → r < 2 ^ suc k → length out < width (chainOf function) → roundMustSay (kept r) out ≡ saidOf WrongLength
-  unfolding roundMustSay roundJudged ready
-  short-says out r from less short =
-      rw (
-        head-read function k s seed lent given r from (omega arith),
-        ne-eqb r (2 ^ suc k) (λ e. omega arith),
-        lt-ltb (length out) (width (chainOf function)) short,
-      ) refl
-
   spent-leaves : (out : List ℕ) (r : ℕ) → r ≡ 2 ^ suc k → roundCard (kept r) out ≡ kept r
-  spent-leaves out r spent = round-says-refused-changes-nothing Spent (kept r) out (spent-says out r spent) .0
+  spent-leaves out r spent = round-says-refused-changes-nothing Spent (kept r) out (spent-says function k s seed lent given r out spent) .0
 
   short-leaves : (out : List ℕ) (r : ℕ) → 0 < r → r < 2 ^ suc k → length out < width (chainOf function) → roundCard (kept r) out ≡ kept r
-  short-leaves out r from less short = round-says-refused-changes-nothing WrongLength (kept r) out (short-says out r from less short) .0
+  short-leaves out r from less short = round-says-refused-changes-nothing WrongLength (kept r) out (short-says function k s seed lent given r out from less short) .0
 
 -- ---- a list of events
 
@@ -240,7 +225,7 @@ module _ (function k s : ℕ) (seed lent : List ℕ) (given : Given function k s
   pub then-spent-says-6 : (out : List ℕ) → r ≡ 2 ^ suc k → (roundMustSay card out ≡ 6 ∷ []) × (roundCard card out ≡ card) × (roundOut card out ≡ out)
   then-spent-says-6 out spent =
       let says : roundMustSay card out ≡ saidOf Spent =
-      ap (λ (b : List ℕ). roundMustSay b out) (standing .holds) ∙ spent-says function k s seed last (standing .given) out r spent in
+      ap (λ (b : List ℕ). roundMustSay b out) (standing .holds) ∙ spent-says function k s seed last (standing .given) r out spent in
       let same = round-says-refused-changes-nothing Spent card out says in
       (says, same .0, same .1)
 
@@ -249,7 +234,7 @@ module _ (function k s : ℕ) (seed lent : List ℕ) (given : Given function k s
       → (roundMustSay card out ≡ 4 ∷ []) × (roundCard card out ≡ card) × (roundOut card out ≡ out)
   then-short-says-4 out less short =
       let says : roundMustSay card out ≡ saidOf WrongLength =
-      ap (λ (b : List ℕ). roundMustSay b out) (standing .holds) ∙ short-says function k s seed last (standing .given) out r (standing .from) less short in
+      ap (λ (b : List ℕ). roundMustSay b out) (standing .holds) ∙ short-says function k s seed last (standing .given) r out (standing .from) less short in
       let same = round-says-refused-changes-nothing WrongLength card out says in
       (says, same .0, same .1)
 
