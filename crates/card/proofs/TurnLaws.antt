@@ -8,7 +8,7 @@ use native.Mathlib.Numerals.{add-one}
 use native.Mathlib.Omega.{arith}
 use borrow.Author.Tests.{eqb-false, ltb-false}
 use lib.Dec.{eqb, ltb}
-use lib.ListN.{length, take, drop, replicate, length-replicate}
+use lib.ListN.{length, take, drop, replicate}
 use lib.Pow.{pow-mono}
 use lib.Seq.{length-take-le}
 use Rattle.oneway.specs.Laws.{known-byte}
@@ -118,11 +118,10 @@ module _ (head : Head) (card out : List ℕ) (ok : Running head card out) where
     old-length : length old ≡ n
     old-length = part-length 16 (16 + n) card (omega arith) end-in ∙ omega arith
 
-    pub advance-asks : (zeros : List ℕ) → zeros ≡ replicate 608 0
-        → Advancing (chainOf head) (head .schedule) (head .k) (head .round .0) (take (16 + n - 16) (drop 16 card)) zeros
+    pub advance-asks : (scratch : List ℕ) → length scratch ≡ 608
+        → Advancing (chainOf head) (head .schedule) (head .k) (head .round .0) (take (16 + n - 16) (drop 16 card)) scratch
     unfolding heldSize heldCount
-    advance-asks zeros e =
-        let z : ℕ = 0 in
+    advance-asks scratch e =
         record {
           known = known-holds (known (head .function)) (nr .known);
           schedule = nr .schedule;
@@ -130,7 +129,7 @@ module _ (head : Head) (card out : List ℕ) (ok : Running head card out) where
           from = ok .sound .from;
           before = ok .before;
           enough = omega (arith, held-fits, slotted .0, old-length);
-          room = omega (arith, later-fits, slotted .0, slotted .1, ap length e, length-replicate 608 z);
+          room = omega (arith, later-fits, slotted .0, slotted .1);
         }
 
     pub pay-asks : Payable head (take (16 + n - 16) (drop 16 card)) out
@@ -146,8 +145,8 @@ module _ (head : Head) (card out : List ℕ) (ok : Running head card out) where
     pub next-fits : head .round .0 < 4294967295
     next-fits = omega (arith, ok .before, pow-mono {i = suc (head .k)} {j = 21} (omega (arith, nr .small)))
 
-    module _ (next : List ℕ) (rd wr hs : ℕ) (kept : length next ≡ 608)
-        (moved : Advanced (chainOf head) (head .schedule) (head .k) (head .round .0) (take (16 + n - 16) (drop 16 card)) (replicate 608 0) rd wr hs next) where
+    module _ (scratch next : List ℕ) (rd wr hs : ℕ) (kept : length next ≡ 608)
+        (moved : Advanced (chainOf head) (head .schedule) (head .k) (head .round .0) (take (16 + n - 16) (drop 16 card)) scratch rd wr hs next) where
       written : wr ≡ heldSize (later head)
       unfolding heldSize heldCount
       written = moved .writes
@@ -179,22 +178,23 @@ module _ (head : Head) (card out : List ℕ) (ok : Running head card out) where
           ∙ ap joined (sym (moved .holds))
           ∙ joined-values (widthOf head) (heldCount (later head)) next
 
-      slots-after : take n next ≡ filled (later head) vs
+      -- the slots behind the values are free, since the scratch was made as zeros
+      slots-after : scratch ≡ replicate 608 0 → take n next ≡ filled (later head) vs
       unfolding slotsSize heldSize heldCount
-      slots-after =
+      slots-after z =
           let m = heldSize (later head) in
           let l : length (take m next) ≡ m = length-take-le m next (omega (arith, later-fits, slotted .0, slotted .1)) in
           slots-filled (later head) vs (take m next) next n 608 (slotted .0) front (omega (arith, l, later-fits, slotted .0)) (slotted .1)
           (ap (λ (x : ℕ). take x next) l)
-          (ap (λ (x : ℕ). drop x next) l ∙ moved .stays ∙ ap (λ (x : ℕ). drop x (replicate 608 0)) (sym l))
+          (ap (λ (x : ℕ). drop x next) l ∙ moved .stays ∙ rw (l, z) refl)
 
-      pub ran : (answer : RoundAnswer) (h : Head) (card′ out′ : List ℕ) → Paid head hs (take (16 + n - 16) (drop 16 card)) out answer out′
+      pub ran : scratch ≡ replicate 608 0 → (answer : RoundAnswer) (h : Head) (card′ out′ : List ℕ) → Paid head hs (take (16 + n - 16) (drop 16 card)) out answer out′
           → h ≡ later head → card′ ≡ over (headBytes h ++ take n next) card → Turned head card out answer card′ out′
       unfolding cardBytes
-      ran answer h card′ out′ p e q =
+      ran z answer h card′ out′ p e q =
           record {
             says = p .says ∙ rw (judged, moved .works) refl;
-            leaves = q ∙ rw (e, slots-after, judged) refl;
+            leaves = q ∙ rw (e, slots-after z, judged) refl;
             writes = p .writes ∙ rw (values-before, judged) refl;
           }
 

@@ -2,12 +2,8 @@
 // writes the record, and `held` counts the values in it.
 ghost use mathlib.Core.Path.{_≡_};
 ghost use mathlib.Core.List.{[], _∷_};
-ghost use Prim.Native.Nat.{suc, _^_, _≤_, _<_};
-ghost use lib.Dec.{T};
-ghost use lib.ListN.{length};
+ghost use Prim.Native.Nat.{_≤_, _<_};
 ghost use Rattle.lists.specs.Writing.{over};
-ghost use Rattle.oneway.specs.Step.{known as isKnown, width as widthOf, step};
-ghost use Rattle.pebbling.specs.Recursion.{chain as element};
 ghost use Rattle.card.specs.Record.{cardBytes};
 ghost use Rattle.card.specs.Refused.{roomFor, startJudged};
 ghost use Rattle.card.specs.Refused.{later as laterOf};

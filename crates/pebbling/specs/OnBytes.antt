@@ -10,7 +10,7 @@ use native.Mathlib.Omega.{arith}
 use lib.ListN.{length, take, drop, length-map}
 use Rattle.lists.specs.Values.{values, joined}
 use Rattle.lists.specs.Wide.{Wide, none, more, wide-append, wide-take, wide-drop, wide-map, joined-wide, joined-cut}
-use Rattle.pebbling.specs.Recursion.{done, finished, hash, hashes, Pebbler, running, preparing, holds, gives, keeps, inTurn, schedule, positions, tick, round, chain, slots}
+use Rattle.pebbling.specs.Recursion.{done, finished, hash, hashes, Pebbler, running, preparing, holds, keeps, inTurn, schedule, positions, tick, round, chain, slots}
 use Rattle.pebbling.specs.HashesDone.{fair}
 use Rattle.pebbling.specs.PutOut.{positions-first}
 use Rattle.pebbling.specs.Turns.{tick-none, tick-first}

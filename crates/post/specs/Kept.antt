@@ -1,4 +1,4 @@
--- A record that was written is read back: the head, the anchor and the value held. And steps add up. Assumes nothing.
+-- A record that was written is read back: the head, the anchor and the value held. Assumes nothing.
 use mathlib.Core.Path.{_≡_, refl}
 use mathlib.Core.Bool.{true}
 use mathlib.Core.List.{List, _++_, append-assoc}
@@ -20,8 +20,6 @@ use Rattle.post.specs.Refused.{numbers, inspectPaid, inspectOf}
 use Rattle.post.specs.Sound.{Numbered}
 use Rattle.post.specs.Search.{same}
 use Rattle.post.specs.Fewest.{same-refl}
-
--- ---- steps
 
 -- ---- numbers
 

@@ -1,5 +1,5 @@
-// Steps along a chain: n of them, and the fewest that lead to a value. The one-way function is applied in `walk` and nowhere else in
-// this crate.
+// Steps along a chain: n of them, and the fewest that lead to a value. Each is taken by `walk` of records, which applies the one-way
+// function; nothing else in this crate does.
 ghost use mathlib.Core.Path.{_≡_};
 ghost use lib.Dec.{T};
 ghost use lib.ListN.{length};

@@ -1,6 +1,6 @@
 -- P_k past its round 2^k on slots: what `children` and `advance` come to over plain lists. No child above the highest bit of the rounds left runs, so that
 -- P_k does what the P_(j+1) of that bit does; and that is two P_j, one behind the other. Assumes nothing.
-use mathlib.Core.Path.{_≡_, sym, ap, _∙_}
+use mathlib.Core.Path.{_≡_, ap, _∙_}
 use mathlib.Core.List.{List}
 use mathlib.Core.Logic.{_⊎_, inl, inr}
 use Prim.Native.Nat.{ℕ, zero, suc, _+_, _-_, _*_, _^_, _≤_, _<_}

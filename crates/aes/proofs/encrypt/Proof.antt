@@ -1,5 +1,5 @@
 -- `aes::encrypt` meets its contract: its steps are the cipher's, with round keys that are those of the key expansion. Assumes nothing.
-use mathlib.Core.Path.{_≡_, ap, ap₂, _∙_}
+use mathlib.Core.Path.{ap, ap₂, _∙_}
 use mathlib.Core.List.{List}
 use Prim.Native.Nat.{ℕ}
 use borrow.Author.Needs.{needs}

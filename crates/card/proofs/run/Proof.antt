@@ -43,7 +43,7 @@ returns c =
     let at-advance = c .before .before in
     let at-slots-size = at-advance .before .before .before .before .before in
     let start = at-slots-size .before .before .before in
-    absurd (never-full (start .args .head) (start .args .card .now) (start .args .out .now) (start .pre) _ (at-slots-size .slots-size .ensures) (at-advance .advance .last .1 .1 .1 .1 .1 .0) _ _ _ (at-advance .advance .kept .1 .1 .1 .1 .1 .0) (at-advance .advance .ensures) (c .if1 .taken))
+    absurd (never-full (start .args .head) (start .args .card .now) (start .args .out .now) (start .pre) _ (at-slots-size .slots-size .ensures) _ (at-advance .advance .last .1 .1 .1 .1 .1 .0) _ _ _ (at-advance .advance .kept .1 .1 .1 .1 .1 .0) (at-advance .advance .ensures) (c .if1 .taken))
 
 sub-pay : tie.Need-sub-pay
 sub-pay c = search needs
@@ -84,7 +84,7 @@ put-requires c κs =
     let at-advance = at-later .before .before .before .before .before .before .before .before .before in
     let at-slots-size = at-advance .before .before .before .before .before in
     let start = at-slots-size .before .before .before in
-    put-asks (start .args .head) (start .args .card .now) (start .args .out .now) (start .pre) _ (at-slots-size .slots-size .ensures) (at-advance .advance .last .1 .1 .1 .1 .1 .0) _ _ _ (at-advance .advance .kept .1 .1 .1 .1 .1 .0) (at-advance .advance .ensures) _ (at-later .later .ensures)
+    put-asks (start .args .head) (start .args .card .now) (start .args .out .now) (start .pre) _ (at-slots-size .slots-size .ensures) _ (at-advance .advance .last .1 .1 .1 .1 .1 .0) _ _ _ (at-advance .advance .kept .1 .1 .1 .1 .1 .0) (at-advance .advance .ensures) _ (at-later .later .ensures)
 
 same-length-2 : tie.Need-same-length-2
 same-length-2 c = search needs
@@ -100,7 +100,7 @@ returns-2 c =
     let at-advance = at-pay .before .before .before .before .before .before in
     let at-slots-size = at-advance .before .before .before .before .before in
     let start = at-slots-size .before .before .before in
-    ran (start .args .head) (start .args .card .now) (start .args .out .now) (start .pre) _ (at-slots-size .slots-size .ensures) (at-advance .advance .last .1 .1 .1 .1 .1 .0) _ _ _ (at-advance .advance .kept .1 .1 .1 .1 .1 .0) (at-advance .advance .ensures) _ _ _ _ (at-pay .pay .ensures) (at-later .later .ensures) (at-put .put .ensures)
+    ran (start .args .head) (start .args .card .now) (start .args .out .now) (start .pre) _ (at-slots-size .slots-size .ensures) _ (at-advance .advance .last .1 .1 .1 .1 .1 .0) _ _ _ (at-advance .advance .kept .1 .1 .1 .1 .1 .0) (at-advance .advance .ensures) refl _ _ _ _ (at-pay .pay .ensures) (at-later .later .ensures) (at-put .put .ensures)
 
 pub run-spec : {M : Type 1} → statement M
 run-spec =

@@ -69,7 +69,9 @@ apply-requires c κs =
     (b .before .before .before .pre .0, e ∙ omega (arith, b .before .width .ensures))
 
 add-applied : tie.Need-add-applied Inv-loop μ-loop
-add-applied c = search needs
+add-applied c =
+    let s = c .before .before .before .before .before .before .before .before .before .before .before .before in
+    omega (arith, s .pre .1 .more, pow-mono {i = s .args .k} {j = 20} (s .pre .1 .small))
 
 loop-less : tie.Need-loop-less Inv-loop μ-loop
 loop-less c = search needs
