@@ -110,6 +110,7 @@ module _ (own : List ℕ) (head : Head) (sound : Sound own head) (less : head .r
 
 -- ---- any record that is as long as its own head says
 
+-- where it has as many bytes as its head says, whatever that says, it is whole
 pub whole-by-its-head : (own : List ℕ) → size (headOf own) ≤ length own → Whole own
 unfolding size
 whole-by-its-head own long = record { headed = omega arith; slotted = λ n. omega arith }
