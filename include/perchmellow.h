@@ -40,6 +40,24 @@ extern "C" {
 /* the record of a card of 2^k ticks, for k up to 20 */
 #define PERCHMELLOW_CARD(k, schedule) (16u + PERCHMELLOW_VALUE * PERCHMELLOW_SLOTS(k, schedule))
 
+/* ---- records, byte by byte; numbers have the low byte first. docs/RULES.md, "Records", says more
+ *
+ *     a card   0-1 the mark 0xB7 0x01; 2 function; 3 schedule; 4 k; 5-7 zero; 8-11 the next round, from 1 to 2^(k+1); 12-15 zero;
+ *              then PERCHMELLOW_SLOTS(k, schedule) slots of 16 bytes: the values held from slot 0 on, zeros behind them
+ *     a post   0-1 the mark 0xB7 0x02; 2 function; 3 k; 4-7 the ticks paid, at most 2^k; 8-23 the anchor; 24-39 the value held
+ *
+ * Bytes behind a record are neither read nor written, so a record may be copied from buffer to buffer between calls.
+ */
+
+/* ---- for firmware
+ *
+ * The library wants memcpy and memset of whoever links it, and nothing else: no heap, no other function of C's, no data of its own.
+ * The most hashes that one call does, with k up to 20: start, positions and enrol none; offer 64; anchor and settle 2^k; a round by its
+ * schedule, preparing and paying: rushing 2^k - 1 and 2^(k-1) - 1; speed-1 1 and k - 1; speed-2 2 and k - 1; optimal k / 2 + 1 and
+ * (k + 1) / 2, rounded down (k at least 2). docs/FIRMWARE.md has the figures.
+ */
+#define PERCHMELLOW_STACK 4096u         /* no call takes more stack than this, on x86-64 as rt builds the library; tests/stack.c measures it */
+
 /* ---- functions and schedules */
 
 #define PERCHMELLOW_MD5 0u  /* MD5 of the value */

@@ -1,7 +1,9 @@
 #!/bin/sh
-# Compiles tests/header.c against include/perchmellow.h and the static library, with every warning an error, and runs it.
+# Compiles tests/header.c and tests/stack.c against include/perchmellow.h and the static library, with every warning an error, and runs them.
 set -eu
 cd "$(dirname "$0")/.."
 mkdir -p target/tests
 cc -std=c99 -Wall -Wextra -Wpedantic -Werror -O2 -Iinclude tests/header.c target/staticlib/libperchmellow.a -o target/tests/header
 target/tests/header
+cc -std=gnu99 -Wall -Wextra -Werror -O2 -Iinclude tests/stack.c target/staticlib/libperchmellow.a -o target/tests/stack
+target/tests/stack

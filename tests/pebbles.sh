@@ -2,7 +2,7 @@
 # Runs the listing program on lines that it can read and lines that it cannot, and compares what it writes to the byte. Run it from the
 # repository's root, after `rt check pebbles`. What is right comes from the example of docs/RULES.md and from tests/pebbling.py, a model of the
 # recursion that was written from the rules alone. Prints a line for each case that failed and then the count; fails if any did.
-# A first argument names another program to try.
+# A first argument names another program to try. A program that does not answer is ended after ten seconds, and its case has failed.
 set -u
 
 program=${1:-target/bin/pebbles}
@@ -11,24 +11,32 @@ if ! [ -x "$program" ]; then
     exit 2
 fi
 
-if ! command -v python3 >/dev/null 2>&1; then
-    echo "pebbles.sh: python3, which runs the model, is not on the PATH." >&2
-    exit 2
-fi
+for needed in python3 timeout; do
+    if ! command -v "$needed" >/dev/null 2>&1; then
+        echo "pebbles.sh: this needs $needed, which is not on the PATH." >&2
+        exit 2
+    fi
+done
 
 work=$(mktemp -d) || exit 2
 trap 'rm -rf "$work"' EXIT
 passed=0
 failed=0
 
-# compare NAME: what the program writes for $work/in is $work/right
-compare() {
-    if "$program" <"$work/in" >"$work/out" 2>"$work/err" && [ ! -s "$work/err" ] && cmp -s "$work/out" "$work/right"; then
+# verdict NAME STATUS: the program ended with that status, said nothing on standard error, and wrote $work/right
+verdict() {
+    if [ "$2" -eq 0 ] && [ ! -s "$work/err" ] && cmp -s "$work/out" "$work/right"; then
         passed=$((passed + 1))
     else
         failed=$((failed + 1))
         echo "failed: $1"
     fi
+}
+
+# compare NAME: what the program writes for $work/in is $work/right
+compare() {
+    "$program" <"$work/in" >"$work/out" 2>"$work/err"
+    verdict "$1" $?
 }
 
 # lists NAME INPUT LINE: INPUT, as printf writes it, gets the model's listing for LINE
@@ -129,15 +137,103 @@ compare "a megabyte of NUL"
 head -c 1000000 /dev/zero | tr '\000' 'o' >"$work/in"
 compare "a megabyte of letters"
 
-# ---- the line in pieces, as a pipe may bring it
+# ---- the answer comes as soon as the bytes decide, while the writer still holds the pipe
+
+# held NAME INPUT [INPUT..]: the INPUTs, as printf writes them, come one after the other on a pipe that stays open, and the program
+# answers all the same
+held() {
+    name=$1
+    shift
+    mkfifo "$work/pipe" || exit 2
+    exec 3<>"$work/pipe"
+    printf "$1" >&3
+    shift
+    for piece in "$@"; do
+        sleep 0.1
+        printf "$piece"
+    done >&3 &
+    timeout 10 "$program" <"$work/pipe" >"$work/out" 2>"$work/err" 3>&-
+    status=$?
+    wait
+    exec 3>&-
+    rm "$work/pipe"
+    verdict "$name" "$status"
+}
 
 cp crates/pebbles/stdout "$work/right"
-{ printf 'opti' && sleep 1 && printf 'mal ' && sleep 1 && printf '2'; } | "$program" >"$work/out"
-if cmp -s "$work/out" "$work/right"; then
+held "an open pipe" 'optimal 2\n'
+held "an open pipe, a second line" 'optimal 2\nrushing 3\n'
+held "an open pipe, bytes one at a time" o p t i m a l ' ' 2 '\n'
+held "an open pipe, LF later" 'optimal 2' '\n'
+printf 'refused\n' >"$work/right"
+held "an open pipe, LF alone" '\n'
+held "an open pipe, eleven bytes" 'optimal 100'
+held "an open pipe, eleven bytes one at a time" o p t i m a l ' ' 1 0 0
+held "an open pipe, a short line that cannot be read" 'optimal\n'
+
+# typed NAME TEXT: TEXT is typed at a terminal that stays open
+typed() {
+    python3 tests/terminal.py typed "$2" "$program" >"$work/out" 2>"$work/err"
+    verdict "$1" $?
+}
+
+cp crates/pebbles/stdout "$work/right"
+typed "a terminal" 'optimal 2\n'
+typed "a terminal, its end typed" 'optimal 2\004\004'
+
+# ---- and no sooner: a line may go on after a read
+
+# later NAME INPUT MORE [MORE..]: INPUT, then each MORE a while later, then the end
+later() {
+    name=$1
+    printf "$2" >"$work/first"
+    shift 2
+    {
+        cat "$work/first"
+        for piece in "$@"; do
+            sleep 0.5
+            printf "$piece"
+        done
+    } | timeout 10 "$program" >"$work/out" 2>"$work/err"
+    verdict "$name" $?
+}
+
+later "the line in pieces" 'opti' 'mal ' '2'
+later "a line without LF, and the end later" 'optimal 2' ''
+echo 'optimal 10' | python3 tests/pebbling.py >"$work/right" || exit 2
+later "a digit later" 'optimal 1' '0'
+later "ten bytes, and LF later" 'optimal 10' '\n'
+later "ten bytes, and the end later" 'optimal 10' ''
+printf 'refused\n' >"$work/right"
+later "ten bytes, and an eleventh later" 'optimal 10' '0'
+
+# ---- a read that fails is not the end of the input
+
+# unread NAME STATUS: the program ended with that status, wrote nothing, and said what failed
+unread() {
+    if [ "$2" -eq 0 ] && [ ! -s "$work/out" ] && head -n 1 "$work/err" | grep -q '^pebbles: standard input could not be read: '; then
+        passed=$((passed + 1))
+    else
+        failed=$((failed + 1))
+        echo "failed: $1"
+    fi
+}
+
+timeout 10 "$program" <&- >"$work/out" 2>"$work/err"
+unread "a closed standard input" $?
+timeout 10 "$program" <"$work" >"$work/out" 2>"$work/err"
+unread "a directory" $?
+python3 tests/terminal.py broken 'optimal 2' "$program" >"$work/out" 2>"$work/err"
+unread "a read that fails behind a line" $?
+
+# ---- a listing that cannot be written
+
+printf 'optimal 2\n' | "$program" >/dev/full 2>"$work/err"
+if grep -q '^pebbles: the listing could not be written to standard output: ' "$work/err"; then
     passed=$((passed + 1))
 else
     failed=$((failed + 1))
-    echo "failed: the line in pieces"
+    echo "failed: a full device"
 fi
 
 echo "pebbles: $passed passed, $failed failed"

@@ -1,5 +1,6 @@
 #!/usr/bin/env python3
-"""A model of the listing program, written from the owner's document 01 alone, as docs/RULES.md gives it: it reads one line from standard input and prints the listing.
+"""A model of the listing program, written from the rules (docs/RULES.md) alone: it reads one line from standard input and prints the
+listing.
 
 It runs the pebblers as objects, a round at a time, as the section "The published recursion" tells it, and shares no code and no closed
 form with the library: a pebbler works out its y's one hash at a time, and hands them to its children after its round 2^k.

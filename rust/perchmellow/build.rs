@@ -1,4 +1,4 @@
-//! Builds the proved library with `rt staticlib` and links it. Where nothing changed since the last proof this takes a moment.
+//! Builds the proved library with `tools/staticlib`, which runs `rt staticlib`, and links it. Where nothing changed since the last proof this takes a moment.
 
 use std::path::Path;
 use std::process::{exit, Command};
@@ -6,19 +6,19 @@ use std::process::{exit, Command};
 fn main() {
     let here = std::env::var("CARGO_MANIFEST_DIR").expect("cargo names the package's folder");
     let root = Path::new(&here).ancestors().nth(2).expect("the package stands in rust/").to_path_buf();
-    for watched in ["crates", "crates.txt"] {
+    for watched in ["crates", "crates.txt", "tools/staticlib"] {
         println!("cargo:rerun-if-changed={}", root.join(watched).display());
     }
 
-    match Command::new("rt").args(["staticlib", "perchmellow"]).current_dir(&root).output() {
+    match Command::new(root.join("tools").join("staticlib")).current_dir(&root).output() {
         Ok(done) if done.status.success() => {}
         Ok(done) => {
             eprint!("{}{}", String::from_utf8_lossy(&done.stdout), String::from_utf8_lossy(&done.stderr));
-            eprintln!("perchmellow: 'rt staticlib perchmellow' did not prove and build the library; what it said stands above.");
+            eprintln!("perchmellow: tools/staticlib did not prove and build the library; what it said stands above.");
             exit(1);
         }
         Err(why) => {
-            eprintln!("perchmellow: rt, the prover's command, could not be run ({why}); put the bin folder of the Rattle kit on the PATH and build again.");
+            eprintln!("perchmellow: tools/staticlib could not be run ({why}); it stands in the repository and needs a shell.");
             exit(1);
         }
     }

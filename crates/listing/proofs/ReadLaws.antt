@@ -1,15 +1,15 @@
--- A line that is compared with the input byte by byte. Assumes nothing.
+-- A line that is compared with the input byte by byte, and a search for LF. Assumes nothing.
 use mathlib.Core.Path.{_≡_, refl}
-use mathlib.Core.Bool.{Bool, true, false, _&&_}
+use mathlib.Core.Bool.{Bool, true, false, _&&_, _||_}
 use mathlib.Core.List.{List, [], _∷_}
 use Prim.Native.Nat.{ℕ, suc, _+_, _≤_, _<_}
 use native.Mathlib.Numerals.{add-one}
 use native.Mathlib.Omega.{arith}
-use borrow.Author.Tests.{eq-eqb, ne-eqb}
+use borrow.Author.Tests.{lt-leb, eq-eqb, ne-eqb}
 use lib.Dec.{eqb}
 use lib.ListN.{length, drop, getD, drop-of-length-le}
 use lib.Seq.{drop-cons}
-use Rattle.listing.specs.Listing.{lineFeed, reads}
+use Rattle.listing.specs.Listing.{lineFeed, reads, ended, decides}
 
 -- an input that is shorter is not the line
 pub reads-short : (line input : List ℕ) → length input < length line → reads line input ≡ false
@@ -43,3 +43,28 @@ reads-all line input i l m = rw (drop-of-length-le line l, drop-of-length-le inp
 pub reads-on : (line input : List ℕ) (i : ℕ) → i ≡ length line → length line < length input → reads (drop i line) (drop i input) ≡ eqb (getD input (length line) 0) lineFeed
 unfolding reads
 reads-on line input i e m = rw (e, drop-of-length-le line {i = length line} (omega arith), drop-cons input (length line) 0 m) refl
+
+-- ---- a search for LF
+
+-- fewer decide where LF is among them
+pub decides-few : (input : List ℕ) → length input < 11 → decides input ≡ ended input
+unfolding decides
+decides-few input h = rw (lt-leb 11 (length input) h) refl
+
+module _ (input : List ℕ) (i : ℕ) (l : i < length input) where
+  first : ended (drop i input) ≡ (eqb (getD input i 0) lineFeed || ended (drop (suc i) input))
+  unfolding ended
+  first = rw (drop-cons input i 0 l) refl
+
+  -- here it is
+  pub ended-here : getD input i 0 ≡ lineFeed → ended (drop i input) ≡ true
+  ended-here e = rw (first, eq-eqb (getD input i 0) lineFeed e) refl
+
+  -- not here
+  pub ended-later : (getD input i 0 ≡ lineFeed → ⊥) → ended (drop i input) ≡ ended (drop (i + 1) input)
+  ended-later n = rw (first, ne-eqb (getD input i 0) lineFeed n, add-one i) refl
+
+-- nowhere
+pub ended-never : (input : List ℕ) (i : ℕ) → length input ≤ i → ended (drop i input) ≡ false
+unfolding ended
+ended-never input i h = rw (drop-of-length-le input h) refl

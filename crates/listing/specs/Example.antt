@@ -1,5 +1,7 @@
--- The example of docs/RULES.md, that each line that can be read gets its listing, and lines that cannot be read: by computing. Assumes nothing.
+-- The example of docs/RULES.md, that each line that can be read gets its listing, lines that cannot be read, and what decides: by computing.
+-- Assumes nothing.
 use mathlib.Core.Path.{_≡_, refl}
+use mathlib.Core.Bool.{true, false}
 use mathlib.Core.List.{List, [], _∷_, _++_, map, flatMap}
 use Prim.Native.Nat.{ℕ, zero, suc, _/_, _%_}
 use Prim.Native.String.{String}
@@ -28,6 +30,8 @@ use Rattle.listing.specs.Listing.{
   nameOf,
   lineFor,
   reads,
+  ended,
+  decides,
   field,
   markBefore,
   positionList,
@@ -95,3 +99,13 @@ unreadable =
 pub refused : map (λ (s : String). listed (bytes s)) unreadable ≡ map (λ (s : String). bytes "refused\n") unreadable
 unfolding bytes decimal decimalIn nameOf lineFor reads listedBy listed
 refused = refl
+
+-- ---- what decides: LF or an eleventh byte; the longest line that can be read has ten and may still go on
+
+pub line-feed-decides : map (λ (s : String). decides (bytes s)) ("\n" ∷ "optimal 2\n" ∷ "optimal 2\nrushing 3" ∷ []) ≡ true ∷ true ∷ true ∷ []
+unfolding bytes ended decides
+line-feed-decides = refl
+
+pub eleven-decide : map (λ (s : String). decides (bytes s)) ("" ∷ "optimal 1" ∷ "optimal 10" ∷ "optimal 100" ∷ []) ≡ false ∷ false ∷ false ∷ true ∷ []
+unfolding bytes ended decides
+eleven-decide = refl

@@ -1,9 +1,9 @@
 -- What the listing program writes, for every input: docs/RULES.md, "Listing program". Assumes nothing.
 use mathlib.Core.Path.{_≡_, sym, _∙_}
-use mathlib.Core.Bool.{Bool, true, false, cond, _&&_}
+use mathlib.Core.Bool.{Bool, true, false, cond, _&&_, _||_}
 use mathlib.Core.List.{List, [], _∷_, _++_}
 use Prim.Native.Nat.{ℕ, zero, suc, _-_, _/_, _%_, _^_, _≤_}
-use lib.Dec.{eqb}
+use lib.Dec.{eqb, leb}
 use lib.ListN.{length}
 use Rattle.lists.specs.Writing.{over}
 use Rattle.pebbling.specs.Recursion.{total, schedule, positions, work, putOut}
@@ -38,6 +38,17 @@ reads [] [] = true
 reads [] (b ∷ bs) = eqb b lineFeed
 reads (c ∷ cs) [] = false
 reads (c ∷ cs) (b ∷ bs) = eqb c b && reads cs bs
+
+-- ---- how much of the input has to be read
+
+-- whether the line has ended: LF is among the bytes
+unfoldable pub ended : List ℕ → Bool
+ended [] = false
+ended (b ∷ bs) = eqb b lineFeed || ended bs
+
+-- whether these bytes decide, whatever comes behind them: there are eleven, one more than any line that can be read has, or the line has ended
+unfoldable pub decides : List ℕ → Bool
+decides input = leb 11 (length input) || ended input
 
 -- ---- the listing
 

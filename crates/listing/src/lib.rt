@@ -6,6 +6,7 @@ ghost use lib.ListN.{length};
 ghost use Rattle.lists.specs.Written.{Written};
 ghost use Rattle.listing.specs.Listing.{nameOf, lineFor, headLine, totalLine, listingOf, Listing};
 ghost use Rattle.listing.specs.Listing.{reads as isRead};
+ghost use Rattle.listing.specs.Listing.{decides as isDecided};
 use text::put;
 use text::put_decimal;
 use text::put_field;
@@ -15,6 +16,9 @@ mod text;
 
 // The bytes lent for a listing. None is longer: it has at most 2047 rounds, each with a line of at most 110 bytes, and two lines more.
 const MOST: usize = 262144;
+
+// The bytes of an input that decide, even where LF is not among them: one more than the longest line that can be read has.
+pub const ENOUGH: usize = 11;
 
 // The largest record of a card with k up to 10: 16 bytes, and 18 slots of 16.
 const RECORD: usize = 304;
@@ -101,6 +105,22 @@ fn asks(schedule: u32, k: u32, input: &[u8]) -> bool
     let mut line = [0u8; 10];
     let n = put_asked(schedule, k, 0, &mut line);
     reads(&line[..n], input)
+}
+
+// Whether these bytes of an input decide: LF is among them, or there are eleven. Then `listing` writes the same for them and for them with
+// anything behind (`rest-changes-nothing`, specs/Lines.antt), so a reader stops here.
+pub fn decides(input: &[u8]) -> bool
+    ensures { λ yes. ⌜ yes ≡ isDecided (now (input .entry)) ⌝ }
+{
+    if ENOUGH <= input.len() {
+        return true;
+    }
+    for i in 0..input.len() {
+        if input[i] == b'\n' {
+            return true;
+        }
+    }
+    false
 }
 
 // Reads the line and writes the listing that it asks for, or `refused` for a line that cannot be read, to the front of `text`.

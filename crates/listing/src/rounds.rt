@@ -10,6 +10,7 @@ use super::text::put;
 use super::text::put_field;
 use card::RoundAnswer;
 use pebbling::PositionsAnswer;
+use pebbling::RoundNumber;
 
 // Lines that were written: where they end, and the hashes that they tell of.
 pub struct Line {
@@ -40,20 +41,26 @@ fn put_positions(list: &[u32], at: usize, text: &mut [u8]) -> usize
 }
 
 // A round's line but for its last field.
-fn put_held(round: u32, hashes: u32, list: &[u32], at: usize, text: &mut [u8]) -> usize
-    requires { ⌜ (length (now list) ≤ 18) × (at + length (heldFields round hashes (now list)) ≤ length (now text)) ⌝ }
-    ensures { λ end. ⌜ Written (heldFields round hashes (now (list .entry))) at (now (text .entry)) end (now (text .exit)) ⌝ }
+fn put_held(round: RoundNumber, hashes: u32, list: &[u32], at: usize, text: &mut [u8]) -> usize
+    requires { ⌜ (length (now list) ≤ 18) × (at + length (heldFields (round .0) hashes (now list)) ≤ length (now text)) ⌝ }
+    ensures { λ end. ⌜ Written (heldFields (round .0) hashes (now (list .entry))) at (now (text .entry)) end (now (text .exit)) ⌝ }
 {
-    let first = put_field(round, b' ', at, text);
+    let first = put_field(round.0, b' ', at, text);
     let second = put_field(hashes, b' ', first, text);
     let third = put_field(list.len() as u32, b' ', second, text);
     put_positions(list, third, text)
 }
 
 // The line of a round that puts out nothing.
-fn put_quiet(round: u32, list: &[u32], answer: RoundAnswer, at: usize, text: &mut [u8]) -> Line
-    requires { ⌜ (length (now list) ≤ 18) × (at + length (quietLine round (now list) answer) ≤ length (now text)) ⌝ }
-    ensures { λ line. ⌜ Lined (quietLine round (now (list .entry)) answer) (quietHashes answer) at (now (text .entry)) line (now (text .exit)) ⌝ }
+fn put_quiet(
+    round: RoundNumber,
+    list: &[u32],
+    answer: RoundAnswer,
+    at: usize,
+    text: &mut [u8],
+) -> Line
+    requires { ⌜ (length (now list) ≤ 18) × (at + length (quietLine (round .0) (now list) answer) ≤ length (now text)) ⌝ }
+    ensures { λ line. ⌜ Lined (quietLine (round .0) (now (list .entry)) answer) (quietHashes answer) at (now (text .entry)) line (now (text .exit)) ⌝ }
 {
     let RoundAnswer::Quiet { hashes } = answer else {
         return Line { end: at, hashes: 0 };
@@ -64,9 +71,15 @@ fn put_quiet(round: u32, list: &[u32], answer: RoundAnswer, at: usize, text: &mu
 }
 
 // The line of a round, by its answer.
-fn put_answer(round: u32, list: &[u32], answer: RoundAnswer, at: usize, text: &mut [u8]) -> Line
-    requires { ⌜ (length (now list) ≤ 18) × (at + length (answerLine round (now list) answer) ≤ length (now text)) ⌝ }
-    ensures { λ line. ⌜ Lined (answerLine round (now (list .entry)) answer) (answerHashes answer) at (now (text .entry)) line (now (text .exit)) ⌝ }
+fn put_answer(
+    round: RoundNumber,
+    list: &[u32],
+    answer: RoundAnswer,
+    at: usize,
+    text: &mut [u8],
+) -> Line
+    requires { ⌜ (length (now list) ≤ 18) × (at + length (answerLine (round .0) (now list) answer) ≤ length (now text)) ⌝ }
+    ensures { λ line. ⌜ Lined (answerLine (round .0) (now (list .entry)) answer) (answerHashes answer) at (now (text .entry)) line (now (text .exit)) ⌝ }
 {
     let RoundAnswer::Tick { position, hashes } = answer else {
         return put_quiet(round, list, answer, at, text);
@@ -77,15 +90,22 @@ fn put_answer(round: u32, list: &[u32], answer: RoundAnswer, at: usize, text: &m
 }
 
 // Asks for the positions, runs the card's round and writes its line. With k up to 10 no card holds more than 18 values.
-fn put_round(schedule: u32, k: u32, round: u32, card: &mut [u8], at: usize, text: &mut [u8]) -> Line
-    requires { ⌜ Round schedule k round ⌝ }
-    requires { ⌜ now card ≡ cardBefore schedule k round ⌝ }
-    requires { ⌜ at + length (roundLine schedule k round) ≤ length (now text) ⌝ }
-    ensures { λ line. ⌜ Lined (roundLine schedule k round) (work (scheduleOf schedule) k round) at (now (text .entry)) line (now (text .exit)) ⌝ }
-    ensures { λ _. ⌜ now (card .exit) ≡ cardBefore schedule k (suc round) ⌝ }
+fn put_round(
+    schedule: u32,
+    k: u32,
+    round: RoundNumber,
+    card: &mut [u8],
+    at: usize,
+    text: &mut [u8],
+) -> Line
+    requires { ⌜ Round schedule k (round .0) ⌝ }
+    requires { ⌜ now card ≡ cardBefore schedule k (round .0) ⌝ }
+    requires { ⌜ at + length (roundLine schedule k (round .0)) ≤ length (now text) ⌝ }
+    ensures { λ line. ⌜ Lined (roundLine schedule k (round .0)) (work (scheduleOf schedule) k (round .0)) at (now (text .entry)) line (now (text .exit)) ⌝ }
+    ensures { λ _. ⌜ now (card .exit) ≡ cardBefore schedule k (suc (round .0)) ⌝ }
 {
     let mut list = [0u32; 18];
-    let listed = pebbling::positions(k, schedule, round, &mut list);
+    let listed = pebbling::positions(k, schedule, round.0, &mut list);
     let PositionsAnswer::Listed { count, hashes: _ } = listed else {
         return Line { end: at, hashes: 0 };
     };
@@ -103,14 +123,14 @@ pub fn put_rounds(schedule: u32, k: u32, card: &mut [u8], at: usize, text: &mut 
     ensures { λ line. ⌜ Lined (roundLines schedule k (2 ^ suc k - 1)) (totalOf (work (scheduleOf schedule) k) (2 ^ suc k - 1)) at (now (text .entry)) line (now (text .exit)) ⌝ }
 {
     let stop = pebbling::powers::power(k + 1);
-    let mut round: u32 = 1;
+    let mut round = RoundNumber(1);
     let mut end = at;
     let mut total: u32 = 0;
-    while round < stop {
+    while round.0 < stop {
         let line = put_round(schedule, k, round, card, end, text);
         end = line.end;
         total += line.hashes;
-        round += 1;
+        round.0 += 1;
     }
     Line { end, hashes: total }
 }

@@ -12,7 +12,7 @@ put-quiet-requires : tie.Need-put-quiet-requires
 put-quiet-requires c κs =
     let arm = c .before in
     let s = arm .before .before .before in
-    (s .pre .0, other-fits (s .args .round) (s .args .list .now) (s .args .at) (s .args .text .now) (s .args .answer) (arm .match .keys2) (s .pre .1))
+    (s .pre .0, other-fits (s .args .round .0) (s .args .list .now) (s .args .at) (s .args .text .now) (s .args .answer) (arm .match .keys2) (s .pre .1))
 
 same-length : tie.Need-same-length
 same-length c = search needs
@@ -22,20 +22,20 @@ returns c =
     let at-put-quiet = c .before .before in
     let arm = at-put-quiet .before .before in
     let s = arm .before .before .before in
-    other-says (s .args .round) (s .args .list .now) (s .args .at) (s .args .text .now) (s .args .answer) (arm .match .keys2) _ _ (at-put-quiet .put-quiet .ensures)
+    other-says (s .args .round .0) (s .args .list .now) (s .args .at) (s .args .text .now) (s .args .answer) (arm .match .keys2) _ _ (at-put-quiet .put-quiet .ensures)
 
 put-held-requires : tie.Need-put-held-requires
 put-held-requires c κs =
     let told = c .before .before in
     let s = told .before .before .before .before in
-    (s .pre .0, tick-fits (s .args .round) (s .args .list .now) (s .args .at) (s .args .text .now) (s .args .answer) _ _ (told .answer .given .1) (s .pre .1))
+    (s .pre .0, tick-fits (s .args .round .0) (s .args .list .now) (s .args .at) (s .args .text .now) (s .args .answer) _ _ (told .answer .given .1) (s .pre .1))
 
 put-field-requires : tie.Need-put-field-requires
 put-field-requires c κs =
     let at-put-held = c .before .before .before in
     let told = at-put-held .before .before .before in
     let s = told .before .before .before .before in
-    tick-end-fits (s .args .round) (s .args .list .now) (s .args .at) (s .args .text .now) (s .args .answer) _ _ (told .answer .given .1) (s .pre .1) _ _ (at-put-held .put-held .ensures)
+    tick-end-fits (s .args .round .0) (s .args .list .now) (s .args .at) (s .args .text .now) (s .args .answer) _ _ (told .answer .given .1) (s .pre .1) _ _ (at-put-held .put-held .ensures)
 
 same-length-2 : tie.Need-same-length-2
 same-length-2 c = search needs
@@ -46,7 +46,7 @@ returns-2 c =
     let at-put-held = at-put-field .before .before .before .before in
     let told = at-put-held .before .before .before in
     let s = told .before .before .before .before in
-    tick-says (s .args .round) (s .args .list .now) (s .args .at) (s .args .text .now) (s .args .answer) _ _ (told .answer .given .1) _ _ (at-put-held .put-held .ensures) _ _ (at-put-field .put-field .ensures)
+    tick-says (s .args .round .0) (s .args .list .now) (s .args .at) (s .args .text .now) (s .args .answer) _ _ (told .answer .given .1) _ _ (at-put-held .put-held .ensures) _ _ (at-put-field .put-field .ensures)
 
 pub put-answer-spec : {M : Type 1} → statement M
 put-answer-spec =

@@ -7,18 +7,32 @@ use Rattle.listing.specs.Listing.{space, field, positionList, heldFields
 use Rattle.listing.proofs.rounds.put_held.Statement.{statement}
 use Rattle.listing.proofs.rounds.put_held.Tie as tie
 
+-- ---- the text
+
+returns : tie.Need-returns
+unfolding heldFields
+returns c =
+    let at-put-positions = c .before .before in
+    let at-put-field3 = at-put-positions .before .before .before .before in
+    let at-put-field2 = at-put-field3 .before .before .before .before in
+    let at-put-field = at-put-field2 .before .before .before .before in
+    let s = at-put-field .before .before .before .before in
+    written-four (field (s .args .round .0) space) (field (s .args .hashes) space) (field (length (s .args .list .now)) space) (positionList (s .args .list .now)) (s .args .text .now) (s .args .at) _ _ (at-put-field .put-field .ensures) _ _ (at-put-field2 .put-field2 .ensures) _ _ (at-put-field3 .put-field3 .ensures) _ _ (at-put-positions .put-positions .ensures)
+
+-- ---- the room for each piece
+
 put-field-requires : tie.Need-put-field-requires
 unfolding heldFields
 put-field-requires c κs =
     let s = c .before .before .before in
-    first-fits (field (s .args .round) space) (field (s .args .hashes) space ++ (field (length (s .args .list .now)) space ++ positionList (s .args .list .now))) (s .args .text .now) (s .args .at) (s .pre .1)
+    first-fits (field (s .args .round .0) space) (field (s .args .hashes) space ++ (field (length (s .args .list .now)) space ++ positionList (s .args .list .now))) (s .args .text .now) (s .args .at) (s .pre .1)
 
 put-field-requires-2 : tie.Need-put-field-requires-2
 unfolding heldFields
 put-field-requires-2 c κs =
     let at-put-field = c .before .before .before in
     let s = at-put-field .before .before .before .before in
-    second-fits (field (s .args .round) space) (field (s .args .hashes) space) (field (length (s .args .list .now)) space ++ positionList (s .args .list .now)) (s .args .text .now) (s .args .at) _ _ (at-put-field .put-field .ensures) (s .pre .1)
+    second-fits (field (s .args .round .0) space) (field (s .args .hashes) space) (field (length (s .args .list .now)) space ++ positionList (s .args .list .now)) (s .args .text .now) (s .args .at) _ _ (at-put-field .put-field .ensures) (s .pre .1)
 
 cast-put-field : tie.Need-cast-put-field
 cast-put-field c = search needs
@@ -29,7 +43,7 @@ put-field-requires-3 c κs =
     let at-put-field2 = c .before .before .before in
     let at-put-field = at-put-field2 .before .before .before .before in
     let s = at-put-field .before .before .before .before in
-    third-of-four-fits (field (s .args .round) space) (field (s .args .hashes) space) (field (length (s .args .list .now)) space) (positionList (s .args .list .now)) (s .args .text .now) (s .args .at) _ _ (at-put-field .put-field .ensures) _ _ (at-put-field2 .put-field2 .ensures) (s .pre .1)
+    third-of-four-fits (field (s .args .round .0) space) (field (s .args .hashes) space) (field (length (s .args .list .now)) space) (positionList (s .args .list .now)) (s .args .text .now) (s .args .at) _ _ (at-put-field .put-field .ensures) _ _ (at-put-field2 .put-field2 .ensures) (s .pre .1)
 
 put-positions-requires : tie.Need-put-positions-requires
 unfolding heldFields
@@ -38,20 +52,10 @@ put-positions-requires c κs =
     let at-put-field2 = at-put-field3 .before .before .before .before in
     let at-put-field = at-put-field2 .before .before .before .before in
     let s = at-put-field .before .before .before .before in
-    fourth-fits (field (s .args .round) space) (field (s .args .hashes) space) (field (length (s .args .list .now)) space) (positionList (s .args .list .now)) (s .args .text .now) (s .args .at) _ _ (at-put-field .put-field .ensures) _ _ (at-put-field2 .put-field2 .ensures) _ _ (at-put-field3 .put-field3 .ensures) (s .pre .1)
+    fourth-fits (field (s .args .round .0) space) (field (s .args .hashes) space) (field (length (s .args .list .now)) space) (positionList (s .args .list .now)) (s .args .text .now) (s .args .at) _ _ (at-put-field .put-field .ensures) _ _ (at-put-field2 .put-field2 .ensures) _ _ (at-put-field3 .put-field3 .ensures) (s .pre .1)
 
 same-length : tie.Need-same-length
 same-length c = search needs
-
-returns : tie.Need-returns
-unfolding heldFields
-returns c =
-    let at-put-positions = c .before .before in
-    let at-put-field3 = at-put-positions .before .before .before .before in
-    let at-put-field2 = at-put-field3 .before .before .before .before in
-    let at-put-field = at-put-field2 .before .before .before .before in
-    let s = at-put-field .before .before .before .before in
-    written-four (field (s .args .round) space) (field (s .args .hashes) space) (field (length (s .args .list .now)) space) (positionList (s .args .list .now)) (s .args .text .now) (s .args .at) _ _ (at-put-field .put-field .ensures) _ _ (at-put-field2 .put-field2 .ensures) _ _ (at-put-field3 .put-field3 .ensures) _ _ (at-put-positions .put-positions .ensures)
 
 pub put-held-spec : {M : Type 1} → statement M
 put-held-spec =

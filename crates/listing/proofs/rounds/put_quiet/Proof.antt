@@ -16,7 +16,7 @@ put-held-requires : tie.Need-put-held-requires
 put-held-requires c κs =
     let told = c .before .before in
     let s = told .before .before .before .before in
-    (s .pre .0, quiet-fits (s .args .round) (s .args .list .now) (s .args .at) (s .args .text .now) (s .args .answer) _ (told .answer .given .1) (s .pre .1))
+    (s .pre .0, quiet-fits (s .args .round .0) (s .args .list .now) (s .args .at) (s .args .text .now) (s .args .answer) _ (told .answer .given .1) (s .pre .1))
 
 slice-aggregate-put : tie.Need-slice-aggregate-put
 slice-aggregate-put c = search needs
@@ -27,7 +27,7 @@ put-requires c κs =
     let at-put-held = c .before .before .before .before in
     let told = at-put-held .before .before .before in
     let s = told .before .before .before .before in
-    quiet-end-fits (s .args .round) (s .args .list .now) (s .args .at) (s .args .text .now) (s .args .answer) _ (told .answer .given .1) (s .pre .1) _ _ (at-put-held .put-held .ensures)
+    quiet-end-fits (s .args .round .0) (s .args .list .now) (s .args .at) (s .args .text .now) (s .args .answer) _ (told .answer .given .1) (s .pre .1) _ _ (at-put-held .put-held .ensures)
 
 same-length : tie.Need-same-length
 same-length c = search needs
@@ -39,7 +39,7 @@ returns-2 c =
     let at-put-held = at-put .before .before .before .before .before in
     let told = at-put-held .before .before .before in
     let s = told .before .before .before .before in
-    quiet-says (s .args .round) (s .args .list .now) (s .args .at) (s .args .text .now) (s .args .answer) _ (told .answer .given .1) _ _ (at-put-held .put-held .ensures) _ _ (at-put .put .ensures)
+    quiet-says (s .args .round .0) (s .args .list .now) (s .args .at) (s .args .text .now) (s .args .answer) _ (told .answer .given .1) _ _ (at-put-held .put-held .ensures) _ _ (at-put .put .ensures)
 
 pub put-quiet-spec : {M : Type 1} → statement M
 put-quiet-spec =

@@ -23,7 +23,7 @@ returns : tie.Need-returns
 returns c =
     let at-positions = c .before .before .before in
     let s = at-positions .before .before .before .before in
-    absurd (never-refused (s .args .schedule) (s .args .k) (s .args .round) (s .pre .0) _ _ (at-positions .positions .ensures) _ (c .enum-told .given .1))
+    absurd (never-refused (s .args .schedule) (s .args .k) (s .args .round .0) (s .pre .0) _ _ (at-positions .positions .ensures) _ (c .enum-told .given .1))
 
 slice-aggregate-round : tie.Need-slice-aggregate-round
 slice-aggregate-round c = search needs
@@ -39,14 +39,14 @@ array-share-prefix-list c =
     let told = c .before .before .before .before .before .before .before in
     let at-positions = told .before .before .before in
     let s = at-positions .before .before .before .before in
-    count-fits (s .args .schedule) (s .args .k) (s .args .round) (s .pre .0) _ _ (at-positions .positions .ensures) _ _ (told .listed .given .1)
+    count-fits (s .args .schedule) (s .args .k) (s .args .round .0) (s .pre .0) _ _ (at-positions .positions .ensures) _ _ (told .listed .given .1)
 
 slice-aggregate-put-answer : tie.Need-slice-aggregate-put-answer
 slice-aggregate-put-answer c =
     let told = c .before .before .before .before .before .before .before .before in
     let at-positions = told .before .before .before in
     let s = at-positions .before .before .before .before in
-    sym (length-take-le _ _ (count-fits (s .args .schedule) (s .args .k) (s .args .round) (s .pre .0) _ _ (at-positions .positions .ensures) _ _ (told .listed .given .1)))
+    sym (length-take-le _ _ (count-fits (s .args .schedule) (s .args .k) (s .args .round .0) (s .pre .0) _ _ (at-positions .positions .ensures) _ _ (told .listed .given .1)))
 
 put-answer-requires : tie.Need-put-answer-requires
 put-answer-requires c κs =
@@ -54,7 +54,7 @@ put-answer-requires c κs =
     let told = at-round .before .before .before .before in
     let at-positions = told .before .before .before in
     let s = at-positions .before .before .before .before in
-    answer-fits (s .args .schedule) (s .args .k) (s .args .round) (s .pre .0) _ _ (at-positions .positions .ensures) _ _ (told .listed .given .1) _ _ _ _ (s .pre .1 .0) (at-round .round .ensures) (s .args .text .now) _ (s .pre .1 .1)
+    answer-fits (s .args .schedule) (s .args .k) (s .args .round .0) (s .pre .0) _ _ (at-positions .positions .ensures) _ _ (told .listed .given .1) _ _ _ _ (s .pre .1 .0) (at-round .round .ensures) (s .args .text .now) _ (s .pre .1 .1)
 
 same-length : tie.Need-same-length
 same-length c = search needs
@@ -69,7 +69,7 @@ returns-2 c =
     let told = at-round .before .before .before .before in
     let at-positions = told .before .before .before in
     let s = at-positions .before .before .before .before in
-    (line-says (s .args .schedule) (s .args .k) (s .args .round) (s .pre .0) _ _ (at-positions .positions .ensures) _ _ (told .listed .given .1) _ _ _ _ (s .pre .1 .0) (at-round .round .ensures) (s .args .text .now) _ _ _ (at-put-answer .put-answer .ensures), card-moves (s .args .schedule) (s .args .k) (s .args .round) (s .pre .0) _ _ (at-positions .positions .ensures) _ _ (told .listed .given .1) _ _ _ _ (s .pre .1 .0) (at-round .round .ensures))
+    (line-says (s .args .schedule) (s .args .k) (s .args .round .0) (s .pre .0) _ _ (at-positions .positions .ensures) _ _ (told .listed .given .1) _ _ _ _ (s .pre .1 .0) (at-round .round .ensures) (s .args .text .now) _ _ _ (at-put-answer .put-answer .ensures), card-moves (s .args .schedule) (s .args .k) (s .args .round .0) (s .pre .0) _ _ (at-positions .positions .ensures) _ _ (told .listed .given .1) _ _ _ _ (s .pre .1 .0) (at-round .round .ensures))
 
 pub put-round-spec : {M : Type 1} → statement M
 put-round-spec =
