@@ -1,14 +1,17 @@
 -- What is demanded of a card, as plain statements about the right sides of the promises of start, round and anchor: for every known function,
 -- every k up to 20, every schedule, every seed of the function's width, and whatever record and out buffers are lent (Run has `Given`
--- and `after`). Round n + 1 is the one after n rounds. Assumes nothing.
+-- and `after`). A round r is a number from 1 on: it is lent the record `after .. (r - 1)`, which a start and r - 1 rounds leave, and the
+-- out buffer `outs r`. Assumes nothing.
 use mathlib.Core.Path.{_≡_, refl, sym, ap, _∙_}
 use mathlib.Core.Bool.{Bool, true, false, cond, true≢false}
 use mathlib.Core.List.{List, [], _∷_, map, append-nil}
 use Prim.Native.Nat.{ℕ, suc, _+_, _-_, _/_, _^_, _≤_, _<_}
+use native.Mathlib.Nat.{pow-succ'}
 use native.Mathlib.Omega.{arith}
 use borrow.Author.Tests.{eq-eqb, le-ltb, eqb-false}
 use lib.Dec.{eqb, ltb}
 use lib.ListN.{length, take}
+use lib.Pow.{pow-pos}
 use lib.Seq.{take-at}
 use Rattle.records.specs.Chains.{chain-length}
 use Rattle.lists.specs.Values.{joined}
@@ -24,7 +27,7 @@ use Rattle.card.specs.Record.{widthOf, heldCount, cardBytes}
 use Rattle.card.specs.Refused.{anchorJudged, later, inspectOf, ready, roundJudged}
 use Rattle.card.specs.Promises.{startMustSay, startCard, tickOrQuiet, judgedRoundSays, roundMustSay, roundOut, anchorOut}
 use Rattle.card.specs.Sound.{Sound, sound, held-later}
-use Rattle.card.specs.Run.{headAt, Given, after, recordAt, start-passes, head-read, round-passes, after-holds, after-puts-out}
+use Rattle.card.specs.Run.{headAt, Given, after, recordAt, start-passes, spent-says, round-passes, round-puts-out, after-holds}
 
 module _ (function k s : ℕ) (seed lent : List ℕ) (given : Given function k s seed lent) where
   abbrev c : Chain
@@ -39,60 +42,65 @@ module _ (function k s : ℕ) (seed lent : List ℕ) (given : Given function k s
   unfolding startCard
   start-holds-the-seed = rw (start-passes function k s seed lent given) refl
 
-  module _ (outs : ℕ → List ℕ) (wide : (n : ℕ) → width c ≤ length (outs n)) where
-    abbrev card : ℕ → List ℕ
-    card n = after function k s seed lent outs n
-
-    holds : (n : ℕ) → suc n ≤ 2 ^ suc k → card n ≡ recordAt function k s seed lent (suc n)
+  module _ (outs : ℕ → List ℕ) (wide : (r : ℕ) → width c ≤ length (outs r)) where
+    holds : (r : ℕ) → 0 < r → r ≤ 2 ^ suc k → after function k s seed lent outs (r - 1) ≡ recordAt function k s seed lent r
     holds = after-holds function k s seed lent given outs wide
 
-    passes : (n : ℕ) → suc n < 2 ^ suc k → roundJudged (recordAt function k s seed lent (suc n)) (outs n) ≡ Card (headAt function k s (suc n))
-    passes n h = round-passes function k s seed lent given (suc n) (outs n) (omega arith) h (wide n)
+    passes : (r : ℕ) → 0 < r → r < 2 ^ suc k → roundJudged (recordAt function k s seed lent r) (outs r) ≡ Card (headAt function k s r)
+    passes r from less = round-passes function k s seed lent given r (outs r) from less (wide r)
 
-    -- before round n + 1 the record holds the chain's elements at the positions of the recursion, in falling order from slot 0, zeros in
+    puts-out : (r : ℕ) → 0 < r → r < 2 ^ suc k
+        → roundOut (after function k s seed lent outs (r - 1)) (outs r) ≡ over (joined (tick (schedule s) k r (before (schedule s) (step c) k seed r))) (outs r)
+    puts-out r from less =
+        ap (λ (b : List ℕ). roundOut b (outs r)) (holds r from (omega arith))
+        ∙ round-puts-out function k s seed lent given r (outs r) from less (wide r)
+
+    -- before round r the record holds the chain's elements at the positions of the recursion, in falling order from slot 0, zeros in
     -- the slots behind them, and what was lent behind its end
-    pub card-holds-its-positions : (n : ℕ) → suc n ≤ 2 ^ suc k
-        → after function k s seed lent outs n ≡ over (cardBytes (headAt function k s (suc n)) (map (chain (step c) seed) (positions (schedule s) k (suc n) 0))) lent
+    pub card-holds-its-positions : (r : ℕ) → 0 < r → r ≤ 2 ^ suc k
+        → after function k s seed lent outs (r - 1) ≡ over (cardBytes (headAt function k s r) (map (chain (step c) seed) (positions (schedule s) k r 0))) lent
     card-holds-its-positions = holds
 
     -- a preparing round is quiet, says the recursion's hashes and leaves the out buffer alone
-    pub preparing-round-says : (n : ℕ) → suc n < 2 ^ k → roundMustSay (after function k s seed lent outs n) (outs n) ≡ 0 ∷ 0 ∷ work (schedule s) k (suc n) ∷ []
+    pub preparing-round-says : (r : ℕ) → 0 < r → r < 2 ^ k
+        → roundMustSay (after function k s seed lent outs (r - 1)) (outs r) ≡ 0 ∷ 0 ∷ work (schedule s) k r ∷ []
     unfolding roundMustSay
-    preparing-round-says n h = rw (holds n (omega arith), passes n (omega arith), preparing-rounds-are-quiet k (suc n) h) refl
+    preparing-round-says r from less =
+        rw (holds r from (omega arith), passes r from (omega arith), preparing-rounds-are-quiet k r less) refl
 
-    pub preparing-round-writes-nothing : (n : ℕ) → suc n < 2 ^ k → roundOut (after function k s seed lent outs n) (outs n) ≡ outs n
+    pub preparing-round-writes-nothing : (r : ℕ) → 0 < r → r < 2 ^ k → roundOut (after function k s seed lent outs (r - 1)) (outs r) ≡ outs r
     unfolding joined
-    preparing-round-writes-nothing n h =
-        after-puts-out function k s seed lent given outs wide n (omega arith)
-        ∙ rw (card-is-quiet s (given .scheduled) k (step c) seed (suc n) h) refl
+    preparing-round-writes-nothing r from less =
+        puts-out r from (omega arith) ∙ rw (card-is-quiet s (given .scheduled) k (step c) seed r less) refl
 
-    -- a paying round with i rounds left after it says the tick at position i and the recursion's hashes, and puts out x_i
-    pub paying-round-says : (n i : ℕ) → 2 ^ k ≤ suc n → suc n + suc i ≡ 2 ^ suc k
-        → roundMustSay (after function k s seed lent outs n) (outs n) ≡ 0 ∷ 1 ∷ i ∷ work (schedule s) k (suc n) ∷ []
+    -- a paying round, from 2^k on, with i rounds left after it says the tick at position i and the recursion's hashes, and puts out x_i
+    pub paying-round-says : (r i : ℕ) → 2 ^ k ≤ r → r + suc i ≡ 2 ^ suc k
+        → roundMustSay (after function k s seed lent outs (r - 1)) (outs r) ≡ 0 ∷ 1 ∷ i ∷ work (schedule s) k r ∷ []
     unfolding roundMustSay
-    paying-round-says n i h e = rw (holds n (omega arith), passes n (omega arith), paying-rounds-pay k (suc n) i h e) refl
+    paying-round-says r i h e =
+        let from : 0 < r = omega (arith, pow-pos k) in
+        rw (holds r from (omega arith), passes r from (omega arith), paying-rounds-pay k r i h e) refl
 
-    pub paying-round-pays : (n i : ℕ) → 2 ^ k ≤ suc n → suc n + suc i ≡ 2 ^ suc k
-        → roundOut (after function k s seed lent outs n) (outs n) ≡ over (chain (step c) seed i) (outs n)
+    pub paying-round-pays : (r i : ℕ) → 2 ^ k ≤ r → r + suc i ≡ 2 ^ suc k
+        → roundOut (after function k s seed lent outs (r - 1)) (outs r) ≡ over (chain (step c) seed i) (outs r)
     unfolding joined
-    paying-round-pays n i h e =
-        after-puts-out function k s seed lent given outs wide n (omega arith)
-        ∙ rw (card-pays s (given .scheduled) k (step c) seed (suc n) i h e, append-nil) refl
+    paying-round-pays r i h e =
+        puts-out r (omega (arith, pow-pos k)) (omega arith) ∙ rw (card-pays s (given .scheduled) k (step c) seed r i h e, append-nil) refl
 
     -- under the optimal schedule no paying round does more hashes than half of k, rounded up
-    pub optimal-paying-round-is-short : s ≡ 3 → (n i hashes : ℕ) → 2 ^ k ≤ suc n → suc n + suc i ≡ 2 ^ suc k
-        → roundMustSay (after function k s seed lent outs n) (outs n) ≡ 0 ∷ 1 ∷ i ∷ hashes ∷ [] → hashes ≤ (k + 1) / 2
-    optimal-paying-round-is-short o n i hashes h e says =
-        let said : 0 ∷ 1 ∷ i ∷ hashes ∷ [] ≡ 0 ∷ 1 ∷ i ∷ work (schedule s) k (suc n) ∷ [] = sym says ∙ paying-round-says n i h e in
-        let same : hashes ≡ work (schedule s) k (suc n) = cc in
-        let short : work (schedule 3) k (suc n) ≤ (k + 1) / 2 = optimal-paying-rounds-are-short k (suc n) h (omega arith) in
+    pub optimal-paying-round-is-short : s ≡ 3 → (r i hashes : ℕ) → 2 ^ k ≤ r → r + suc i ≡ 2 ^ suc k
+        → roundMustSay (after function k s seed lent outs (r - 1)) (outs r) ≡ 0 ∷ 1 ∷ i ∷ hashes ∷ [] → hashes ≤ (k + 1) / 2
+    optimal-paying-round-is-short o r i hashes h e says =
+        let said : 0 ∷ 1 ∷ i ∷ hashes ∷ [] ≡ 0 ∷ 1 ∷ i ∷ work (schedule s) k r ∷ [] = sym says ∙ paying-round-says r i h e in
+        let same : hashes ≡ work (schedule s) k r = cc in
+        let short : work (schedule 3) k r ≤ (k + 1) / 2 = optimal-paying-rounds-are-short k r h (omega arith) in
         rw (same, o) short
 
-    -- when all rounds are run, the next one is refused
-    pub spent-card-says-6 : (n : ℕ) (out : List ℕ) → suc n ≡ 2 ^ suc k → roundMustSay (after function k s seed lent outs n) out ≡ 6 ∷ []
-    unfolding roundMustSay roundJudged ready
-    spent-card-says-6 n out e =
-        rw (holds n (omega arith), head-read function k s seed lent given (suc n) (omega arith) (omega arith), eq-eqb (suc n) (2 ^ suc k) e) refl
+    -- when all rounds are run, the next one is refused, whatever out buffer it is lent
+    pub spent-card-says-6 : (r : ℕ) (out : List ℕ) → r ≡ 2 ^ suc k → roundMustSay (after function k s seed lent outs (r - 1)) out ≡ 6 ∷ []
+    spent-card-says-6 r out e =
+        ap (λ (b : List ℕ). roundMustSay b out) (holds r (omega (arith, pow-pos (suc k))) (omega arith))
+        ∙ spent-says function k s seed lent given r out e
 
   -- ---- anchor
 
@@ -103,19 +111,21 @@ module _ (function k s : ℕ) (seed lent : List ℕ) (given : Given function k s
       rw (given .known, le-ltb 20 k (given .small), eq-eqb (length seed) (width c) (given .seeded), le-ltb (length out) (width c) w) refl
 
   -- so one step from the first tick, which round 2^k puts out, gives it
-  pub first-tick-leads-to-the-anchor : (outs : ℕ → List ℕ) → ((n : ℕ) → width c ≤ length (outs n)) → (out : List ℕ) → width c ≤ length out → (n : ℕ) → suc n ≡ 2 ^ k
-      → step c (take (width c) (roundOut (after function k s seed lent outs n) (outs n))) ≡ take (width c) (anchorOut c k seed out)
+  pub first-tick-leads-to-the-anchor : (outs : ℕ → List ℕ) → ((r : ℕ) → width c ≤ length (outs r)) → (out : List ℕ) → width c ≤ length out → (r : ℕ) → r ≡ 2 ^ k
+      → step c (take (width c) (roundOut (after function k s seed lent outs (r - 1)) (outs r))) ≡ take (width c) (anchorOut c k seed out)
   unfolding chain
-  first-tick-leads-to-the-anchor outs wide out w n e =
-      let tick : roundOut (after function k s seed lent outs n) (outs n) ≡ over (chain (step c) seed n) (outs n) =
-      paying-round-pays outs wide n n (omega arith) (omega arith) in
-      let first : take (width c) (over (chain (step c) seed n) (outs n)) ≡ chain (step c) seed n =
-      take-at (chain (step c) seed n) _ (width c) (chain-length c seed (given .seeded) n) in
-      let last : take (width c) (over (chain (step c) seed (suc n)) out) ≡ chain (step c) seed (suc n) =
-      take-at (chain (step c) seed (suc n)) _ (width c) (chain-length c seed (given .seeded) (suc n)) in
+  first-tick-leads-to-the-anchor outs wide out w r e =
+      let i : ℕ = 2 ^ k - 1 in
+      let next : suc i ≡ 2 ^ k = omega (arith, pow-pos k) in
+      let tick : roundOut (after function k s seed lent outs (r - 1)) (outs r) ≡ over (chain (step c) seed i) (outs r) =
+      paying-round-pays outs wide r i (omega arith) (omega (arith, pow-succ' 2 k)) in
+      let first : take (width c) (over (chain (step c) seed i) (outs r)) ≡ chain (step c) seed i =
+      take-at (chain (step c) seed i) _ (width c) (chain-length c seed (given .seeded) i) in
+      let last : take (width c) (over (chain (step c) seed (suc i)) out) ≡ chain (step c) seed (suc i) =
+      take-at (chain (step c) seed (suc i)) _ (width c) (chain-length c seed (given .seeded) (suc i)) in
       ap (λ (b : List ℕ). step c (take (width c) b)) tick
       ∙ ap (step c) first
-      ∙ sym (ap (take (width c)) (anchor-is-the-last out w ∙ ap (λ (m : ℕ). over (chain (step c) seed m) out) (sym e)) ∙ last)
+      ∙ sym (ap (take (width c)) (anchor-is-the-last out w ∙ ap (λ (m : ℕ). over (chain (step c) seed m) out) (sym next)) ∙ last)
 
 -- ---- refusal 8
 

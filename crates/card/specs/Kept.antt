@@ -111,6 +111,10 @@ module _ (head : Head) (vs : List (List ℕ)) (nr : Numbered head) (from : 0 < h
     kept-length : length (over (cardBytes head vs) old) ≡ length old
     kept-length = over-length (cardBytes head vs) old (omega (arith, card-length))
 
+    -- its head is read back
+    pub headed-back : headOf (over (cardBytes head vs) old) ≡ head
+    headed-back = ap headOf apart ∙ head-back (filled head vs ++ drop (size head) old)
+
     -- it passes inspection
     pub inspected : inspectOf (over (cardBytes head vs) old) ≡ Card head
     unfolding inspectOf inspectSlots

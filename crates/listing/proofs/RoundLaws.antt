@@ -2,15 +2,14 @@
 -- hashes and what it puts out, so that the line written is the recursion's. Assumes nothing.
 use mathlib.Core.Path.{_≡_, refl, sym, ap, _∙_}
 use mathlib.Core.List.{List, [], _∷_}
-use Prim.Native.Nat.{ℕ, zero, suc, _+_, _^_, _≤_, _<_}
+use Prim.Native.Nat.{ℕ, suc, _+_, _^_, _≤_}
 use native.Mathlib.Omega.{arith}
 use borrow.Author.Tests.{ne-eqb, le-ltb}
 use lib.ListN.{length, take, drop, replicate}
-use lib.Pow.{pow-pos}
 use lib.Seq.{take-append-seam}
 use Rattle.card.specs.Promises.{Started, Rounded, tickOrQuiet, roundMustSay, roundCard}
 use Rattle.card.specs.Record.{slotsSize, size}
-use Rattle.card.specs.Run.{Given, after, round-passes, after-holds}
+use Rattle.card.specs.Run.{Given, start-leaves, round-passes, round-leaves}
 use Rattle.card.specs.declared.Answer.{Answer}
 use Rattle.card.specs.declared.RoundAnswer.{RoundAnswer}
 use Rattle.lists.specs.Writing.{over, over-length}
@@ -48,13 +47,12 @@ given s k a b =
       long = omega (arith, slots-few s k b);
     }
 
-wide : (n : ℕ) → width (record { function = 0 }) ≤ length out
+wide : width (record { function = 0 }) ≤ length out
 unfolding width
-wide n = omega arith
+wide = omega arith
 
 pub card-started : (s k : ℕ) → s ≤ 3 → k ≤ 10 → (a : Answer) (card : List ℕ) → Started 0 k s seed lent a card → card ≡ cardBefore s k 1
-unfolding after
-card-started s k p q a card st = st .leaves ∙ after-holds 0 k s seed lent (given s k p q) (λ n. out) wide 0 (omega (arith, pow-pos k))
+card-started s k p q a card st = st .leaves ∙ start-leaves 0 k s seed lent (given s k p q)
 
 module _ (s k r : ℕ) (ok : Round s k r) where
   g : Given 0 k s seed lent
@@ -62,17 +60,10 @@ module _ (s k r : ℕ) (ok : Round s k r) where
 
   round-said : roundMustSay (cardBefore s k r) out ≡ tickOrQuiet (putOut k r 0) (work (schedule s) k r)
   unfolding roundMustSay
-  round-said = rw (round-passes 0 k s seed lent g r out (ok .from) (ok .upto) (wide 0)) refl
+  round-said = rw (round-passes 0 k s seed lent g r out (ok .from) (ok .upto) wide) refl
 
   round-left : roundCard (cardBefore s k r) out ≡ cardBefore s k (suc r)
-  unfolding after
-  round-left = go r (ok .from) (ok .upto)
-    where
-      go : (r : ℕ) → 0 < r → r < 2 ^ suc k → roundCard (cardBefore s k r) out ≡ cardBefore s k (suc r)
-      go zero p q = absurd (omega arith)
-      go (suc n) p q =
-          ap (λ (b : List ℕ). roundCard b out) (sym (after-holds 0 k s seed lent g (λ n. out) wide n (omega arith)))
-          ∙ after-holds 0 k s seed lent g (λ n. out) wide (suc n) q
+  round-left = round-leaves 0 k s seed lent g r out (ok .from) (ok .upto) wide
 
   -- ---- the position list
 

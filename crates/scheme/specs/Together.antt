@@ -8,7 +8,6 @@ use native.Mathlib.Omega.{arith}
 use lib.ListN.{length, take, drop}
 use lib.Pow.{pow-pos}
 use lib.Seq.{take-at}
-use Rattle.records.specs.Numbers.{number}
 use Rattle.records.specs.Chains.{chain-length}
 use Rattle.oneway.specs.declared.Chain.{Chain}
 use Rattle.oneway.specs.Step.{width, step}
@@ -20,26 +19,25 @@ use Rattle.post.specs.Record.{size, headOf}
 use Rattle.post.specs.Promises.{enrolMustSay, enrolPost, offerMustSay, offerPost, settleMustSay}
 use Rattle.post.specs.Ride.{Allowed, Standing, missed-taken, missed-exactly, missed-refused, ride-enrolled, ride-stands, ride-credits, ride-paid, ride-spent, ride-settles, after as offered}
 
--- the card: started with the seed and run, round n + 1 with the out buffer `outs n`
+-- the card: started with the seed and run, round r with the out buffer `outs r`
 module _ (function k s : ℕ) (seed lent : List ℕ) (given : Given function k s seed lent)
-    (outs : ℕ → List ℕ) (wide : (n : ℕ) → width (record { function = function }) ≤ length (outs n)) where
+    (outs : ℕ → List ℕ) (wide : (r : ℕ) → width (record { function = function }) ≤ length (outs r)) where
   abbrev c : Chain
   c = record { function = function }
 
   abbrev x : ℕ → List ℕ
   x n = chain (step c) seed n
 
-  -- the tick of paying round 2^k + m: the front of the out buffer after it
+  -- the tick that paying round 2^k + m puts out: the front of its out buffer
   pub tick : ℕ → List ℕ
-  tick m = take (width c) (roundOut (after function k s seed lent outs (2 ^ k - 1 + m)) (outs (2 ^ k - 1 + m)))
+  tick m = take (width c) (roundOut (after function k s seed lent outs (2 ^ k + m - 1)) (outs (2 ^ k + m)))
 
   -- it is the chain's element of the tick's number
   pub tick-is : (m n : ℕ) → m + suc n ≡ 2 ^ k → tick m ≡ x n
   unfolding tick
   tick-is m n e =
-      let r = 2 ^ k - 1 + m in
+      let r = 2 ^ k + m in
       let two = pow-succ' 2 k in
-      let pos = pow-pos k in
       ap (take (width c)) (paying-round-pays function k s seed lent given outs wide r n (omega arith) (omega arith))
       ∙ take-at (x n) (drop (length (x n)) (outs r)) (width c) (chain-length c seed (given .seeded) n)
 

@@ -1,0 +1,5 @@
+pub mod Unchanged
+pub mod Front
+pub mod CardBehind
+pub mod PostBehind
+pub mod Calls
