@@ -1,5 +1,5 @@
 -- What start, round and anchor promise, and that each promise leaves no choice. The right sides are definitions over what was lent;
--- a refusal is a case of them: its number alone is answerSays, and no byte changes. Assumes nothing.
+-- a refusal is a case of them: its number alone is said, and no byte changes. Assumes nothing.
 use mathlib.Core.Path.{_≡_, refl, sym, ap, _∙_}
 use mathlib.Core.List.{List, [], _∷_}
 use Prim.Native.Nat.{ℕ, _^_}
@@ -122,7 +122,8 @@ pub record Anchored (c : Chain) (k : ℕ) (seed out : List ℕ) (answer : Answer
   pub says : answerSays answer ≡ anchorMustSay c k seed out
   pub writes : out′ ≡ anchorOut c k seed out
 
--- ---- what is answerSays tells the answer, so each promise is kept by one answer and one content of each lent buffer
+-- ---- no two answers say the same, so that from what is said one can tell the answer; and so each promise is kept by one answer and one
+-- content of each lent buffer
 
 pub answer-told : (a b : Answer) → answerSays a ≡ answerSays b → a ≡ b
 answer-told Done Done e = refl

@@ -1,5 +1,5 @@
--- The one-way functions of docs/RULES.md, "Chain, card and post", and the two things that everything above speaks of: how wide a chain's values are, and what
--- comes after a value. Assumes nothing.
+-- The one-way functions of docs/RULES.md, "Chain, card and post", and the two things that everything above speaks of: how wide a chain's
+-- values are, and what comes after a value. Assumes nothing.
 use mathlib.Core.Bool.{Bool}
 use mathlib.Core.List.{List, [], _∷_, _++_}
 use Prim.Native.Nat.{ℕ, zero, suc, _-_, _*_, _/_, _%_}

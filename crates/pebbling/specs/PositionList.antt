@@ -36,7 +36,7 @@ pub record Positioned (k s r : ℕ) (list : List ℕ) (answer : PositionsAnswer)
   pub says : positionsAnswerSays answer ≡ positionsMustSay k s r list
   pub leaves : list′ ≡ positionsList k s r list
 
--- what is positionsAnswerSays tells the answer
+-- no two answers say the same, so that from what is said one can tell the answer
 pub positions-told : (a b : PositionsAnswer) → positionsAnswerSays a ≡ positionsAnswerSays b → a ≡ b
 positions-told (Refused x) (Refused y) e = ap Refused (said-tells x y e)
 positions-told (Refused x) (Listed m v) e = let z : _≡_ {A = ℕ} 0 1 = cc in absurd (omega arith)

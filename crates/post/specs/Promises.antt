@@ -1,5 +1,5 @@
 -- What enrol, offer and settle promise, and that each promise leaves no choice. The right sides are definitions over what was lent;
--- a refusal is a case of them: its number alone is answerSays, and no byte changes. Assumes nothing.
+-- a refusal is a case of them: its number alone is said, and no byte changes. Assumes nothing.
 use mathlib.Core.Path.{_≡_, refl, sym, ap, _∙_}
 use mathlib.Core.Bool.{Bool, true, false}
 use mathlib.Core.List.{List, [], _∷_}
@@ -125,7 +125,8 @@ settleMustSay function k anchor last paid =
 pub record Settled (function k : ℕ) (anchor last : List ℕ) (paid : ℕ) (answer : SettleAnswer) : Type 0 where
   pub says : settleAnswerSays answer ≡ settleMustSay function k anchor last paid
 
--- ---- what is answerSays tells the answer, so each promise is kept by one answer and one content of the lent record
+-- ---- no two answers say the same, so that from what is said one can tell the answer; and so each promise is kept by one answer and one
+-- content of the lent record
 
 pub answer-told : (a b : Answer) → answerSays a ≡ answerSays b → a ≡ b
 answer-told Done Done e = refl

@@ -50,7 +50,7 @@ number-not-0 NotTaken = refl
 pub not-refused : (refusal : Refusal) (rest : List ℕ) → saidOf refusal ≡ 0 ∷ rest → ⊥
 not-refused refusal rest e = let z : numberOf refusal ≡ 0 = cc in true≢false (sym (eq-eqb (numberOf refusal) 0 z) ∙ number-not-0 refusal)
 
--- what the counter says tells which refusal it is
+-- which refusal it is that the counter says so of
 heard : List ℕ → Refusal
 heard said =
     getD (NotTaken ∷ UnknownFunction ∷ TooManyTicks ∷ UnknownSchedule ∷ WrongLength ∷ BadRecord ∷ Spent ∷ BadGap ∷ NoRoom ∷ [])
@@ -69,5 +69,6 @@ heard-said BadGap = refl
 heard-said NoRoom = refl
 heard-said NotTaken = refl
 
+-- no two refusals are said alike: from what is said one can tell the refusal
 pub said-tells : (a b : Refusal) → saidOf a ≡ saidOf b → a ≡ b
 said-tells a b e = sym (heard-said a) ∙ ap heard e ∙ heard-said b
