@@ -1,4 +1,5 @@
 pub mod HashLaws
 pub mod TallyLaws
+pub mod HeldLaws
 pub mod ListLaws
 pub mod PositionLaws

@@ -7,6 +7,7 @@ ghost use Rattle.pebbling.specs.PositionList.{Positioned};
 use refusals::Refusal;
 
 pub mod hashes;
+pub mod held;
 mod position_list;
 pub mod powers;
 pub mod tally;

@@ -2,13 +2,13 @@
 ghost use mathlib.Core.Path.{_≡_};
 ghost use Prim.Native.Nat.{suc, _+_, _^_, _≤_, _<_};
 ghost use lib.ListN.{length};
+ghost use Rattle.pebbling.specs.Promises.{Aside};
 ghost use Rattle.pebbling.specs.Recursion.{schedule as hashesOf, positions};
 ghost use Rattle.pebbling.specs.SideBySide.{sideHeldCount};
-ghost use Rattle.card.specs.Steps.{Aside};
-use pebbling::RoundNumber;
-use pebbling::hashes::hashes_done;
-use pebbling::hashes::held_count_after;
-use pebbling::powers::power;
+use super::RoundNumber;
+use super::hashes::hashes_done;
+use super::hashes::held_count_after;
+use super::powers::power;
 
 // The children of P_k, side by side in their round n, and `more` besides. The last of them is P_(k-1). Past its round 2^(k-1) only its own
 // children are left; up to then it holds its y's, and before then the children below it run too.

@@ -1,9 +1,9 @@
 -- `held::held_count` meets its contract. Assumes nothing.
 use native.Mathlib.Omega.{arith}
 use borrow.Author.Needs.{needs}
-use Rattle.card.proofs.HeldLaws.{held-asks, held-children, held-itself}
-use Rattle.card.proofs.held.held_count.Statement.{statement}
-use Rattle.card.proofs.held.held_count.Tie as tie
+use Rattle.pebbling.proofs.HeldLaws.{held-asks, held-children, held-itself}
+use Rattle.pebbling.proofs.held.held_count.Statement.{statement}
+use Rattle.pebbling.proofs.held.held_count.Tie as tie
 
 power-requires : tie.Need-power-requires
 power-requires c κs = search needs
