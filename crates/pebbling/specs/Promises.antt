@@ -4,7 +4,7 @@ use Prim.Native.Nat.{ℕ, suc, _+_, _^_, _≤_, _<_}
 use lib.ListN.{length}
 use Rattle.pebbling.specs.Len.{len}
 use Rattle.pebbling.specs.OptimalLeft.{g}
-use Rattle.pebbling.specs.Recursion.{done, held, positions, work, schedule as hashesOf}
+use Rattle.pebbling.specs.Recursion.{done, held, schedule as hashesOf}
 use Rattle.pebbling.specs.SideBySide.{sideHeldCount}
 
 pub record Power (k p : ℕ) : Type 0 where
@@ -42,16 +42,3 @@ pub record Aside (s k n more : ℕ) : Type 0 where
   pub from : 0 < n
   pub before : n < 2 ^ k
   pub few : more + sideHeldCount (hashesOf s) k n ≤ 41
-
--- two numbers whose sum fits a u32
-abbrev pub Fitting : ℕ → ℕ → Type 0
-Fitting a b = a + b ≤ 4294967295
-
--- P_k in its round r, its children with it: the values held before the round and after it, and its hashes
-pub record Tallied (s k r before after works : ℕ) : Type 0 where
-  pub holds : before ≡ length (positions (hashesOf s) k r 0)
-  pub leaves : after ≡ length (positions (hashesOf s) k (suc r) 0)
-  pub does : works ≡ work (hashesOf s) k r
-  pub few : before ≤ 41
-  pub fewer : after ≤ 41
-  pub small : works < 2 ^ k

@@ -1,6 +1,6 @@
 // What a card holds before a round and hashes in it, in numbers only: no value of the chain is looked at.
-// `hashes` has one pebbler's schedule and the hashes that it has done, `tally` counts over all the pebblers
-// that run, and `positions` below is the position list. Each costs time by k and never by 2^k.
+// `hashes` has one pebbler's schedule and the hashes that it has done, `held` counts the values of all the
+// pebblers that run, and `positions` below is the position list. Each costs time by k and never by 2^k.
 ghost use Prim.Native.Nat.{suc, _^_, _≤_};
 ghost use Rattle.pebbling.specs.Promises.{Left};
 ghost use Rattle.pebbling.specs.PositionList.{Positioned};
@@ -10,7 +10,6 @@ pub mod hashes;
 pub mod held;
 mod position_list;
 pub mod powers;
-pub mod tally;
 
 // A round of a pebbler, counted from 1. The rounds of P_k are 1 to 2^(k+1) - 1.
 pub struct RoundNumber(pub u32);
@@ -49,27 +48,27 @@ pub fn positions(k: u32, schedule: u32, round: u32, list: &mut [u32]) -> Positio
     if 3 < schedule {
         return PositionsAnswer::Refused(Refusal::UnknownSchedule);
     }
-    if round == 0 {
+    let round = RoundNumber(round);
+    if round.0 == 0 {
         return PositionsAnswer::Refused(Refusal::BadRecord);
     }
     let end = powers::power(k + 1);
-    if end < round {
+    if end < round.0 {
         return PositionsAnswer::Refused(Refusal::BadRecord);
     }
-    if round == end {
+    if round.0 == end {
         return PositionsAnswer::Listed {
             count: 0,
             hashes: 0,
         };
     }
-    let counted = tally::count(schedule, k, RoundNumber(round));
-    let count = counted.before;
+    let count = held::held_count(schedule, k, round);
     if list.len() < count as usize {
         return PositionsAnswer::Refused(Refusal::WrongLength);
     }
-    position_list::list_all(schedule, k, RoundNumber(round), 0, 0, list);
+    let listed = position_list::list_all(schedule, k, round, 0, 0, list);
     PositionsAnswer::Listed {
         count,
-        hashes: counted.work,
+        hashes: listed.hashes,
     }
 }
