@@ -10,23 +10,25 @@ use super::hashes::hashes_done;
 use super::hashes::held_count_after;
 use super::powers::power;
 
-// The children of P_k, side by side in their round n, and `more` besides. The last of them is P_(k-1). Past its round 2^(k-1) only its own
+// The children of P_k, side by side in their round, and `more` besides. The last of them is P_(k-1). Past its round 2^(k-1) only its own
 // children are left; up to then it holds its y's, and before then the children below it run too.
-fn held_count_aside(schedule: u32, k: u32, n: u32, more: u32) -> u32
-    requires { ⌜ Aside schedule k n more ⌝ }
-    ensures { λ m. ⌜ m ≡ more + sideHeldCount (hashesOf schedule) k n ⌝ }
+fn held_count_aside(schedule: u32, k: u32, round: RoundNumber, more: u32) -> u32
+    requires { ⌜ Aside schedule k (round .0) more ⌝ }
+    ensures { λ m. ⌜ m ≡ more + sideHeldCount (hashesOf schedule) k (round .0) ⌝ }
 {
+    let n = round.0;
     let j = k - 1;
     let half = power(j);
     if half < n {
-        return held_count_aside(schedule, j, n - half, more);
+        let later = n - half;
+        return held_count_aside(schedule, j, RoundNumber(later), more);
     }
-    let own = held_count_after(j, hashes_done(schedule, j, RoundNumber(n)));
+    let own = held_count_after(j, hashes_done(schedule, j, round));
     let all = more + own;
     if n == half {
         return all;
     }
-    held_count_aside(schedule, j, n, all)
+    held_count_aside(schedule, j, round, all)
 }
 
 // The values that P_k holds before its round, its children with it.
@@ -37,7 +39,8 @@ pub fn held_count(schedule: u32, k: u32, round: RoundNumber) -> u32
     let r = round.0;
     let whole = power(k);
     if whole < r {
-        return held_count_aside(schedule, k, r - whole, 0);
+        let n = r - whole;
+        return held_count_aside(schedule, k, RoundNumber(n), 0);
     }
     held_count_after(k, hashes_done(schedule, k, round))
 }

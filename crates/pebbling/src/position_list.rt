@@ -86,8 +86,9 @@ pub fn list_all(
     let lower = list_all(schedule, j, RoundNumber(n), base, next, list);
     let first = upper.hashes;
     let second = lower.hashes;
+    let hashes = first + second;
     Listing {
         end: lower.end,
-        hashes: first + second,
+        hashes,
     }
 }

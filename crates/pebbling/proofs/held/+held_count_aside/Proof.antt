@@ -38,8 +38,8 @@ module _ (t : ℕ) where
   power-requires : lts.Need-power-requires claims at aside.Post
   power-requires c κs = omega (arith, c .pre .1 .small)
 
-  sub-held-count-aside : lts.Need-sub-held-count-aside claims at aside.Post
-  sub-held-count-aside c = omega arith
+  sub-later : lts.Need-sub-later claims at aside.Post
+  sub-later c = omega arith
 
   held-count-aside-requires : lts.Need-held-count-aside-requires claims at aside.Post
   held-count-aside-requires c κs =
@@ -97,7 +97,7 @@ pub +held-count-aside-spec : {M : Type 1} → statement M
     lts.spec (claims t) (at t) aside.Post
     (sub-j t)
     (power-requires t)
-    (sub-held-count-aside t)
+    (sub-later t)
     (held-count-aside-requires t)
     (returns t)
     (hashes-done-requires t)

@@ -139,7 +139,7 @@ module _ (t : ℕ) where
       let r = second-asks (schedule (s .args .schedule)) _ _ (s .args .base) _ _ _ (rises b) (b .before .power .ensures) (p .power2 .ensures) (b .if1 .left) (s .args .list .now) (s .args .at) (s .pre .1 .4) (s .pre .1 .5) _ _ (d .list-all2 .ensures .0) in
       (omega (arith, rises b, s .pre .0), (s .pre .1 .0, l .0, l .1, l .2, r .0, r .1))
 
-  add-hashes : lts.Need-add-t33 claims at all.Post
+  add-hashes : lts.Need-add-hashes claims at all.Post
   add-hashes c =
       let o = c .before .before in
       let d = o .before .before .before .before in
