@@ -1,13 +1,14 @@
 // One pebbler P_k up to its round 2^k: the hashes of a preparing round under each schedule, the hashes done
 // before a round, and the values held after so many hashes.
 ghost use mathlib.Core.Path.{_≡_};
-ghost use Prim.Native.Nat.{_-_, _^_, _≤_, _<_};
+ghost use Prim.Native.Nat.{_+_, _-_, _^_, _≤_, _<_};
 ghost use Rattle.pebbling.specs.Len.{len};
-ghost use Rattle.pebbling.specs.OptimalLeft.{left};
+ghost use Rattle.pebbling.specs.OptimalLeft.{left as hashesLeft};
 ghost use Rattle.pebbling.specs.Promises.{Curve, Done, Holds};
 ghost use Rattle.pebbling.specs.Recursion.{rushing, speed2, optimal};
 ghost use Rattle.pebbling.specs.Recursion.{schedule as hashesOf};
 use super::RoundNumber;
+use super::RoundsLeft;
 use super::powers::bits;
 use super::powers::power;
 use super::rounds_left;
@@ -75,11 +76,13 @@ fn curve(k: u32, n: u32) -> u32
     n * (k - l) + power(l)
 }
 
-// The hashes that an optimal P_k has still to do, c rounds before its round 2^k.
-fn optimal_left(k: u32, c: u32) -> u32
-    requires { ⌜ (0 < k) × (k ≤ 20) × (c ≤ 2 ^ (k - 1)) ⌝ }
-    ensures { λ r. ⌜ r ≡ left k c ⌝ }
+// The hashes that an optimal P_k has still to do, by its rounds left: they are done before its round 2^k, to which it
+// has c rounds.
+fn optimal_left(k: u32, left: RoundsLeft) -> u32
+    requires { ⌜ (0 < k) × (k ≤ 20) × (2 ^ k ≤ left .0) × (left .0 ≤ 2 ^ k + 2 ^ (k - 1)) ⌝ }
+    ensures { λ r. ⌜ r ≡ hashesLeft k (left .0 - 2 ^ k) ⌝ }
 {
+    let c = left.0 - power(k);
     let above = power(bits(c));
     let twice = curve(k + 2, above) - curve(k, above - c) - 2;
     ((k + c) % 2 + twice) / 2
@@ -108,7 +111,7 @@ fn optimal_done(k: u32, round: RoundNumber) -> u32
     }
     let whole = power(k);
     let left = rounds_left(k, round);
-    whole - 1 - optimal_left(k, left.0 - whole)
+    whole - 1 - optimal_left(k, left)
 }
 
 // The hashes that P_k has done before its round, which is at most 2^k, by the schedule's number. Before round

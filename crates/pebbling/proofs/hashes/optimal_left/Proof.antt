@@ -1,20 +1,35 @@
 -- `hashes::optimal_left` meets its contract: it is the closed form, and none of its differences goes below 0. Assumes nothing.
 use native.Mathlib.Omega.{arith}
 use mathlib.Core.Path.{refl}
-use Prim.Native.Nat.{_^_}
+use Prim.Native.Nat.{_-_, _^_, _≤_}
 use Rattle.pebbling.proofs.HashLaws.{Leftover, leftover, left-at}
 use borrow.Author.Needs.{needs}
 use Rattle.pebbling.proofs.hashes.optimal_left.Statement.{statement}
 use Rattle.pebbling.proofs.hashes.optimal_left.Tie as tie
 
-about : (c : tie.After-power) → Leftover (c .before .before .args .k) (c .before .before .args .c) (c .power .result) (c .before .bits .result)
-about c = leftover _ _ _ _ (omega arith) (omega arith) (omega arith) (c .before .bits .ensures) (c .power .ensures .is)
+-- P_k is in the second half of its preparing rounds
+second-half : (c : tie.After-power) → c .before .args .left .0 - c .power .result ≤ 2 ^ (c .before .args .k - 1)
+second-half c = omega arith
+
+about : (c : tie.After-power2)
+    → let p = c .before .before .before in
+    Leftover (p .before .args .k) (p .before .args .left .0 - p .power .result) (c .power2 .result) (c .before .bits .result)
+about c = leftover _ _ _ _ (omega arith) (omega arith) (second-half (c .before .before .before)) (c .before .bits .ensures) (c .power2 .ensures .is)
+
+power-requires : tie.Need-power-requires
+power-requires c κs = search needs
+
+sub-c : tie.Need-sub-c
+sub-c c = search needs
 
 bits-requires : tie.Need-bits-requires
 bits-requires c κs = search needs
 
-power-requires : tie.Need-power-requires
-power-requires c κs = let a = c .before .args in omega (arith, leftover (a .k) (a .c) (2 ^ c .bits .result) (c .bits .result) (omega arith) (omega arith) (omega arith) (c .bits .ensures) refl .bits)
+power-requires-2 : tie.Need-power-requires-2
+power-requires-2 c κs =
+    let p = c .before .before in
+    let n = c .bits .result in
+    omega (arith, leftover (p .before .args .k) (p .before .args .left .0 - p .power .result) (2 ^ n) n (omega arith) (omega arith) (second-half p) (c .bits .ensures) refl .bits)
 
 add-curve : tie.Need-add-curve
 add-curve c = search needs
@@ -41,14 +56,19 @@ add-result-2 : tie.Need-add-result-2
 add-result-2 c = search needs
 
 returns : tie.Need-returns
-returns c = left-at _ _ _ _ _ _ (c .before .before .before .bits .ensures) (c .before .before .power .ensures) (c .before .curve .ensures) (c .curve2 .ensures)
+returns c =
+    let a = c .before .before in
+    let b = a .before in
+    left-at _ _ _ _ _ _ _ (b .before .before .power .ensures) (b .bits .ensures) (a .power2 .ensures) (c .before .curve .ensures) (c .curve2 .ensures)
 
 pub optimal-left-spec : {M : Type 1} → statement M
 optimal-left-spec =
     tie.close
     (tie.spec
-    bits-requires
     power-requires
+    sub-c
+    bits-requires
+    power-requires-2
     add-curve
     curve-requires
     sub-curve
