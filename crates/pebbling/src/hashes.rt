@@ -67,7 +67,8 @@ pub fn hashes_in(schedule: u32, k: u32, round: RoundNumber) -> u32
     }
 }
 
-// n * (k - len n) + 2^(len n): what the hashes that are left add up by.
+// n * (k - len n) + 2^(len n). From n to n + 1 it rises by k - len n: while the length stays that is plain, and where
+// n + 1 is a power of two the second term gains the n + 1 that the first one loses. So it is a sum of such steps.
 fn curve(k: u32, n: u32) -> u32
     requires { ⌜ (k ≤ 22) × (n ≤ 1048576) × (len n ≤ k) ⌝ }
     ensures { λ r. ⌜ Curve k n r ⌝ }
@@ -77,7 +78,15 @@ fn curve(k: u32, n: u32) -> u32
 }
 
 // The hashes that an optimal P_k has still to do, by its rounds left: they are done before its round 2^k, to which it
-// has c rounds.
+// has c rounds. With z for what c lacks to the power of two above it, the round itself has half of k - len z hashes,
+// or half of k + 1 where c is a power of two, rounded up where k + c is odd. From one power of two to the next c grows
+// and z falls, so twice what is left is a constant less the curve at z. The constant is the curve for k + 2 at the power
+// above, less 2: that gives 0 at c = 0, and a step of k + 1 at each power. All the rounding comes to that of the sum,
+// since an odd sum is only ever followed by an odd step.
+//
+// For k = 4 rounds 8 to 15 have 2, 2, 1, 1, 2, 2, 2 and 3 hashes. Before round 8, c = 8, above = 16 and z = 8: the
+// curves are 48 and 16, and half of 0 + (48 - 16 - 2) is 15. Before round 9, c = 7, above = 8 and z = 1: they are 32
+// and 5, and half of 1 + (32 - 5 - 2) is 13. Then 11, 10, 9, 7, 5 and 3 are left, and 0 before round 16.
 fn optimal_left(k: u32, left: RoundsLeft) -> u32
     requires { ⌜ (0 < k) × (k ≤ 20) × (2 ^ k ≤ left .0) × (left .0 ≤ 2 ^ k + 2 ^ (k - 1)) ⌝ }
     ensures { λ r. ⌜ r ≡ hashesLeft k (left .0 - 2 ^ k) ⌝ }
