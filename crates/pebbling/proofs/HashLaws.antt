@@ -151,9 +151,9 @@ left-by k c l a x y d p e f =
     rw (m, e .is, f .is) refl
 
 -- the same by the rounds left, of which the last 2^k are those from round 2^k on
-pub left-at : (k rest whole l a x y : ℕ) → Power k whole → Bits (rest - whole) l → Power l a → Curve (k + 2) a x → Curve k (a - (rest - whole)) y
+pub left-at : (k rest whole l a x y : ℕ) → whole ≡ 2 ^ k → Bits (rest - whole) l → Power l a → Curve (k + 2) a x → Curve k (a - (rest - whole)) y
     → ((k + (rest - whole)) % 2 + (x - y - 2)) / 2 ≡ left k (rest - 2 ^ k)
-left-at k rest whole l a x y w d p e f = left-by k (rest - whole) l a x y d p e f ∙ ap (λ (q : ℕ). left k (rest - q)) (w .is)
+left-at k rest whole l a x y w d p e f = left-by k (rest - whole) l a x y d p e f ∙ ap (λ (q : ℕ). left k (rest - q)) w
 
 module _ (k r half : ℕ) (0<k : 0 < k) (0<r : 0 < r) (h : r < 2 ^ k) (p : Power (k - 1) half) where
   pub idle-speed2 : r < half → Done speed2 k r 0

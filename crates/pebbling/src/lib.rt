@@ -27,6 +27,9 @@ pub fn rounds_left(k: u32, round: RoundNumber) -> RoundsLeft
     RoundsLeft(left)
 }
 
+// The positions of the longest list: no k and schedule have more.
+const MOST: usize = 38;
+
 // What the position list answers.
 pub enum PositionsAnswer {
     // The positions were written: how many, and the hashes of the round.
@@ -38,7 +41,8 @@ pub enum PositionsAnswer {
 // The position list: writes the positions that a card of 2^k ticks holds before `round` to the front of
 // `list`, in falling order. Refuses k over 20 (2), a schedule over 3 (3), a round that is not from 1 to
 // 2^(k+1) (5), and a list with fewer entries than positions (4), in this order, and then changes nothing.
-// Entries behind the positions stay.
+// Entries behind the positions stay. They are listed aside first: how many there are is known then, and a list that is too
+// short is left alone.
 pub fn positions(k: u32, schedule: u32, round: u32, list: &mut [u32]) -> PositionsAnswer
     ensures { λ answer. ⌜ Positioned k schedule round (now (list .entry)) answer (now (list .exit)) ⌝ }
 {
@@ -62,11 +66,14 @@ pub fn positions(k: u32, schedule: u32, round: u32, list: &mut [u32]) -> Positio
             hashes: 0,
         };
     }
-    let count = held::held_count(schedule, k, round);
-    if list.len() < count as usize {
+    let mut aside = [0u32; MOST];
+    let listed = position_list::list_all(schedule, k, round, 0, 0, &mut aside);
+    let entries = listed.end;
+    if list.len() < entries {
         return PositionsAnswer::Refused(Refusal::WrongLength);
     }
-    let listed = position_list::list_all(schedule, k, round, 0, 0, list);
+    position_list::list_all(schedule, k, round, 0, 0, list);
+    let count = entries as u32;
     PositionsAnswer::Listed {
         count,
         hashes: listed.hashes,

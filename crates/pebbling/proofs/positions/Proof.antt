@@ -1,7 +1,8 @@
--- `positions` meets its contract. Each way out is a case of the definition, which the tests on the way there pick (PositionLaws); how many there are is what
--- `held::held_count` promises, and the list and the hashes are what `position_list::list_all` does. Assumes nothing.
+-- `positions` meets its contract. Each way out is a case of the definition, which the tests on the way there pick (PositionLaws); how many
+-- there are, the list and the hashes are what `position_list::list_all` promises, aside and then in the list. Assumes nothing.
+use native.Mathlib.Omega.{arith}
 use borrow.Author.Needs.{needs}
-use Rattle.pebbling.proofs.PositionLaws.{refused-k, refused-schedule, refused-zero, refused-late, listed-none, round-asked, refused-length, list-asked, listed-all}
+use Rattle.pebbling.proofs.PositionLaws.{refused-k, refused-schedule, refused-zero, refused-late, listed-none, round-asked, aside-asked, few, refused-length, list-asked, listed-all}
 use Rattle.pebbling.proofs.positions.Statement.{statement}
 use Rattle.pebbling.proofs.positions.Tie as tie
 
@@ -37,54 +38,72 @@ returns-5 c =
     let n = z .before .before in
     listed-none _ _ _ _ (n .before .if1 .left) (n .if2 .left) (z .if3 .left) _ (p .power .ensures) (l .if4 .left) (c .if5 .taken)
 
-held-count-requires : tie.Need-held-count-requires
-held-count-requires c κs =
-    let l = c .before .before in
-    let p = l .before .before in
-    let z = p .before in
-    let n = z .before .before in
-    let a = round-asked _ _ _ (n .before .before .before .args .list .now) (n .before .if1 .left) (n .if2 .left) (z .if3 .left) _ (p .power .ensures) (l .if4 .left) (c .if5 .left) in
-    (n .if2 .left, n .before .if1 .left, a .0, a .1)
-
-cast-if6 : tie.Need-cast-if6
-cast-if6 c = search needs
-
-returns-6 : tie.Need-returns-6
-returns-6 c =
-    let e = c .before .before in
-    let l = e .before .before in
-    let p = l .before .before in
-    let z = p .before in
-    let n = z .before .before in
-    refused-length _ _ _ _ (n .before .if1 .left) (n .if2 .left) (z .if3 .left) _ (p .power .ensures) (l .if4 .left) (e .if5 .left) _ (c .before .held-count .ensures .0) (c .if6 .taken)
+slice-aggregate-list-all : tie.Need-slice-aggregate-list-all
+slice-aggregate-list-all c = search needs
 
 list-all-requires : tie.Need-list-all-requires
 list-all-requires c κs =
-    let f = c .before in
-    let e = f .before .before in
+    let e = c .before in
     let l = e .before .before in
     let p = l .before .before in
     let z = p .before in
     let n = z .before .before in
     let list = n .before .before .before .args .list .now in
     let a = round-asked _ _ _ list (n .before .if1 .left) (n .if2 .left) (z .if3 .left) _ (p .power .ensures) (l .if4 .left) (e .if5 .left) in
-    let b = list-asked _ _ _ list (n .before .if1 .left) (n .if2 .left) (z .if3 .left) _ (p .power .ensures) (l .if4 .left) (e .if5 .left) _ (f .before .held-count .ensures .0) (f .if6 .left) in
+    let b = aside-asked _ _ _ list (n .before .if1 .left) (n .if2 .left) (z .if3 .left) _ (p .power .ensures) (l .if4 .left) (e .if5 .left) in
     (n .if2 .left, n .before .if1 .left, a .0, a .1, b .0, b .1)
+
+returns-6 : tie.Need-returns-6
+returns-6 c =
+    let a = c .before .before in
+    let e = a .before .before in
+    let l = e .before .before in
+    let p = l .before .before in
+    let z = p .before in
+    let n = z .before .before in
+    refused-length _ _ _ _ (n .before .if1 .left) (n .if2 .left) (z .if3 .left) _ (p .power .ensures) (l .if4 .left) (e .if5 .left) _ _ _ _ (a .list-all .ensures) (c .if6 .taken)
+
+list-all-requires-2 : tie.Need-list-all-requires-2
+list-all-requires-2 c κs =
+    let f = c .before in
+    let a = f .before .before in
+    let e = a .before .before in
+    let l = e .before .before in
+    let p = l .before .before in
+    let z = p .before in
+    let n = z .before .before in
+    let list = n .before .before .before .args .list .now in
+    let x = round-asked _ _ _ list (n .before .if1 .left) (n .if2 .left) (z .if3 .left) _ (p .power .ensures) (l .if4 .left) (e .if5 .left) in
+    let y = list-asked _ _ _ list (n .before .if1 .left) (n .if2 .left) (z .if3 .left) _ (p .power .ensures) (l .if4 .left) (e .if5 .left) _ _ _ _ (a .list-all .ensures) (f .if6 .left) in
+    (n .if2 .left, n .before .if1 .left, x .0, x .1, y .0, y .1)
+
+cast-count : tie.Need-cast-count
+cast-count c =
+    let f = c .before .before .before .before in
+    let a = f .before .before in
+    let e = a .before .before in
+    let l = e .before .before in
+    let p = l .before .before in
+    let z = p .before in
+    let n = z .before .before in
+    let list = n .before .before .before .args .list .now in
+    omega (arith, few _ _ _ list (n .before .if1 .left) (n .if2 .left) (z .if3 .left) _ (p .power .ensures) (l .if4 .left) (e .if5 .left) _ _ _ _ (a .list-all .ensures))
 
 same-length : tie.Need-same-length
 same-length c = search needs
 
 returns-7 : tie.Need-returns-7
 returns-7 c =
-    let a = c .before .before in
-    let f = a .before .before in
-    let e = f .before .before in
+    let b = c .before .before in
+    let f = b .before .before in
+    let a = f .before .before in
+    let e = a .before .before in
     let l = e .before .before in
     let p = l .before .before in
     let z = p .before in
     let n = z .before .before in
-    listed-all _ _ _ (n .before .before .before .args .list .now) (n .before .if1 .left) (n .if2 .left) (z .if3 .left) _ (p .power .ensures) (l .if4 .left) (e .if5 .left) _
-    (f .before .held-count .ensures .0) (f .if6 .left) _ _ _ (a .list-all .ensures)
+    listed-all _ _ _ (n .before .before .before .args .list .now) (n .before .if1 .left) (n .if2 .left) (z .if3 .left) _ (p .power .ensures) (l .if4 .left) (e .if5 .left) _ _ _ _
+    (a .list-all .ensures) (f .if6 .left) _ _ (b .list-all2 .ensures .0)
 
 pub positions-spec : {M : Type 1} → statement M
 positions-spec =
@@ -97,9 +116,10 @@ positions-spec =
     power-requires
     returns-4
     returns-5
-    held-count-requires
-    cast-if6
-    returns-6
+    slice-aggregate-list-all
     list-all-requires
+    returns-6
+    list-all-requires-2
+    cast-count
     same-length
     returns-7)

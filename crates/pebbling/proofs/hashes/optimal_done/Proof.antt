@@ -27,7 +27,7 @@ optimal-left-requires c κs =
     let b = c .before in
     let s = b .before .before .before in
     let a = left-asked _ _ _ (s .pre .0) (s .pre .2) (s .pre .3) (b .before .before .power .ensures) _ (b .power2 .ensures) (b .before .if1 .left) _ (c .rounds-left .ensures) in
-    (s .pre .0, s .pre .1, a .0, a .1)
+    (s .pre .0, s .pre .1, b .power2 .ensures .is, a .0, a .1)
 
 sub-result-2 : tie.Need-sub-result-2
 sub-result-2 c = let b = c .before .before in let s = b .before .before .before in busy-optimal _ _ _ (s .pre .0) (s .pre .2) (s .pre .3) (b .before .before .power .ensures) _ (b .power2 .ensures) (b .before .if1 .left) _ (c .before .rounds-left .ensures) _ (c .optimal-left .ensures) .0

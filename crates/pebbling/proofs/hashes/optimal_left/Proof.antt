@@ -8,16 +8,13 @@ use Rattle.pebbling.proofs.hashes.optimal_left.Statement.{statement}
 use Rattle.pebbling.proofs.hashes.optimal_left.Tie as tie
 
 -- P_k is in the second half of its preparing rounds
-second-half : (c : tie.After-power) → c .before .args .left .0 - c .power .result ≤ 2 ^ (c .before .args .k - 1)
+second-half : (c : tie.Start) → c .args .left .0 - c .args .whole ≤ 2 ^ (c .args .k - 1)
 second-half c = omega arith
 
-about : (c : tie.After-power2)
-    → let p = c .before .before .before in
-    Leftover (p .before .args .k) (p .before .args .left .0 - p .power .result) (c .power2 .result) (c .before .bits .result)
-about c = leftover _ _ _ _ (omega arith) (omega arith) (second-half (c .before .before .before)) (c .before .bits .ensures) (c .power2 .ensures .is)
-
-power-requires : tie.Need-power-requires
-power-requires c κs = search needs
+about : (c : tie.After-power)
+    → let s = c .before .before .before in
+    Leftover (s .args .k) (s .args .left .0 - s .args .whole) (c .power .result) (c .before .bits .result)
+about c = leftover _ _ _ _ (omega arith) (omega arith) (second-half (c .before .before .before)) (c .before .bits .ensures) (c .power .ensures .is)
 
 sub-c : tie.Need-sub-c
 sub-c c = search needs
@@ -25,11 +22,11 @@ sub-c c = search needs
 bits-requires : tie.Need-bits-requires
 bits-requires c κs = search needs
 
-power-requires-2 : tie.Need-power-requires-2
-power-requires-2 c κs =
-    let p = c .before .before in
+power-requires : tie.Need-power-requires
+power-requires c κs =
+    let s = c .before .before in
     let n = c .bits .result in
-    omega (arith, leftover (p .before .args .k) (p .before .args .left .0 - p .power .result) (2 ^ n) n (omega arith) (omega arith) (second-half p) (c .bits .ensures) refl .bits)
+    omega (arith, leftover (s .args .k) (s .args .left .0 - s .args .whole) (2 ^ n) n (omega arith) (omega arith) (second-half s) (c .bits .ensures) refl .bits)
 
 add-curve : tie.Need-add-curve
 add-curve c = search needs
@@ -59,16 +56,16 @@ returns : tie.Need-returns
 returns c =
     let a = c .before .before in
     let b = a .before in
-    left-at _ _ _ _ _ _ _ (b .before .before .power .ensures) (b .bits .ensures) (a .power2 .ensures) (c .before .curve .ensures) (c .curve2 .ensures)
+    let s = b .before .before in
+    left-at _ _ _ _ _ _ _ (s .pre .2) (b .bits .ensures) (a .power .ensures) (c .before .curve .ensures) (c .curve2 .ensures)
 
 pub optimal-left-spec : {M : Type 1} → statement M
 optimal-left-spec =
     tie.close
     (tie.spec
-    power-requires
     sub-c
     bits-requires
-    power-requires-2
+    power-requires
     add-curve
     curve-requires
     sub-curve
