@@ -1,4 +1,3 @@
-pub mod HeldLaws
 pub mod ReadLaws
 pub mod StartLaws
 pub mod TurnLaws

@@ -6,21 +6,12 @@ use lib.ListN.{length}
 use Rattle.lists.specs.Values.{values, joined}
 use Rattle.lists.specs.Writing.{over}
 use Rattle.pebbling.specs.Recursion.{putOut, tick, schedule as hashesOf}
-use Rattle.pebbling.specs.SideBySide.{sideHeldCount}
 use Rattle.card.specs.declared.Head.{Head}
 use Rattle.card.specs.declared.RoundAnswer.{RoundAnswer}
 use Rattle.card.specs.Record.{widthOf, heldCount}
 use Rattle.card.specs.Refused.{ready}
 use Rattle.card.specs.Promises.{roundAnswerSays, tickOrQuiet, judgedRoundSays, judgedRoundCard, judgedRoundOut}
 use Rattle.card.specs.Sound.{Sound}
-
--- the children of P_k in their round n, with `more` values counted before; there are few enough of all of them
-pub record Aside (s k n more : ℕ) : Type 0 where
-  pub schedule : s ≤ 3
-  pub small : k ≤ 20
-  pub from : 0 < n
-  pub before : n < 2 ^ k
-  pub few : more + sideHeldCount (hashesOf s) k n ≤ 41
 
 -- a head whose numbers fit a byte each, and a record with room for it and its slots
 pub record Puttable (head : Head) (slots card : List ℕ) : Type 0 where

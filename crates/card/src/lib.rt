@@ -1,5 +1,5 @@
 // The card: a record of a chain's values, which a round moves on by the published recursion, and the calls on it. `layout` reads and
-// writes the record, and `held` counts the values in it.
+// writes the record.
 ghost use mathlib.Core.Path.{_≡_};
 ghost use mathlib.Core.List.{[], _∷_};
 ghost use Prim.Native.Nat.{_≤_, _<_};
@@ -14,7 +14,6 @@ use oneway::Chain;
 use pebbling::RoundNumber;
 use refusals::Refusal;
 
-mod held;
 mod layout;
 
 // The slots of the largest record: no k and schedule ask for more than 38, and no function's values are wider than 16 bytes.

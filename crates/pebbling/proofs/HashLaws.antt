@@ -144,11 +144,16 @@ leftover (suc k) c a l p q h d e =
     small zero b = rw len-zero (len-le 1 (suc k) (omega (arith, pow-pos k)))
     small (suc c) b = len-le (2 ^ len (suc c) - suc c) (suc k) (omega (arith, pow-pos k, len-pos (suc c) (omega arith)))
 
-pub left-at : (k c l a x y : ℕ) → Bits c l → Power l a → Curve (k + 2) a x → Curve k (a - c) y → ((k + c) % 2 + (x - y - 2)) / 2 ≡ left k c
+left-by : (k c l a x y : ℕ) → Bits c l → Power l a → Curve (k + 2) a x → Curve k (a - c) y → ((k + c) % 2 + (x - y - 2)) / 2 ≡ left k c
 unfolding left twiceLeft
-left-at k c l a x y d p e f =
+left-by k c l a x y d p e f =
     let m : 2 ^ len c ≡ a = ap (λ (x : ℕ). 2 ^ x) (sym (d .is)) ∙ sym (p .is) in
     rw (m, e .is, f .is) refl
+
+-- the same by the rounds left, of which the last 2^k are those from round 2^k on
+pub left-at : (k rest whole l a x y : ℕ) → whole ≡ 2 ^ k → Bits (rest - whole) l → Power l a → Curve (k + 2) a x → Curve k (a - (rest - whole)) y
+    → ((k + (rest - whole)) % 2 + (x - y - 2)) / 2 ≡ left k (rest - 2 ^ k)
+left-at k rest whole l a x y w d p e f = left-by k (rest - whole) l a x y d p e f ∙ ap (λ (q : ℕ). left k (rest - q)) w
 
 module _ (k r half : ℕ) (0<k : 0 < k) (0<r : 0 < r) (h : r < 2 ^ k) (p : Power (k - 1) half) where
   pub idle-speed2 : r < half → Done speed2 k r 0
@@ -164,12 +169,12 @@ module _ (k r half : ℕ) (0<k : 0 < k) (0<r : 0 < r) (h : r < 2 ^ k) (p : Power
         (omega (arith, two-halves k 0<k), record { is = omega arith; small = omega arith })
 
     module _ (c : ℕ) (a : Left k r c) where
-      pub to-go-asked : c - whole ≤ 2 ^ (k - 1)
-      to-go-asked = omega (arith, two-halves k 0<k)
+      pub left-asked : (2 ^ k ≤ c) × (c ≤ 2 ^ k + 2 ^ (k - 1))
+      left-asked = (omega arith, omega (arith, two-halves k 0<k))
 
-      pub busy-optimal : (x : ℕ) → x ≡ left k (c - whole) → (x ≤ whole - 1) × Done optimal k r (whole - 1 - x)
+      pub busy-optimal : (x : ℕ) → x ≡ left k (c - 2 ^ k) → (x ≤ whole - 1) × Done optimal k r (whole - 1 - x)
       busy-optimal x e =
-          let d = done-optimal-late k r 0<k 0<r (c - whole) (omega arith) to-go-asked in
+          let d = done-optimal-late k r 0<k 0<r (c - 2 ^ k) (omega arith) (omega (arith, left-asked)) in
           (omega arith, record { is = omega arith; small = omega arith })
 
 -- by the schedule's number

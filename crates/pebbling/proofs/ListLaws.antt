@@ -1,17 +1,20 @@
--- What the code of `position_list` comes to: stores of positions one behind another are `sets`, and two runs of stores, the second where the first ended, are one.
--- Assumes nothing.
+-- What the code of `position_list` comes to: stores of positions one behind another are `sets`, and two runs of stores, the second where the first ended, are one;
+-- the hashes of the two halves add up. Assumes nothing.
 use mathlib.Core.Path.{_≡_, refl, sym, ap, _∙_}
 use mathlib.Core.List.{List, _∷_, _++_}
-use Prim.Native.Nat.{ℕ, suc, _+_, _-_, _*_, _^_, _≤_, _<_}
+use Prim.Native.Nat.{ℕ, zero, suc, _+_, _-_, _*_, _^_, _≤_, _<_}
 use native.Mathlib.Numerals.{add-one}
 use native.Mathlib.Omega.{arith}
 use lib.ListN.{length, set, length-append, length-set}
+use lib.Pow.{pow-mono}
 use lib.Seq.{sets}
 use Rattle.lists.specs.Written.{Written, written-length, written-as, written-both}
 use Rattle.pebbling.specs.Len.{len, len-le, lt-len}
-use Rattle.pebbling.specs.Recursion.{place, held, positions}
+use Rattle.pebbling.specs.Recursion.{schedule, place, held, positions, work}
 use Rattle.pebbling.specs.OnePebbler.{places, Newest, newest, newest-len, held-form, held-length}
-use Rattle.pebbling.specs.SideBySide.{positions-itself, positions-split, positions-ended}
+use Rattle.pebbling.specs.SideBySide.{positions-itself, positions-split, positions-ended, work-prepare, work-out, work-split, work-ended}
+use Rattle.pebbling.specs.HashesDone.{fair}
+use Rattle.pebbling.specs.Totals.{work-lt}
 use Rattle.pebbling.specs.Promises.{Power, Bits, Done}
 
 -- ---- P_k itself: the loop over its finished y's
@@ -75,7 +78,19 @@ module _ (k h base p n : ℕ) (b : h < 2 ^ k) (a : Power k p) (d : Bits (p - h) 
         holds = rw (e, add-one at) at (f .same) ∙ sym (ap (sets list at) held-is);
       }
 
+-- its hashes
+pub own-works-out : (t : ℕ → ℕ → ℕ) (k r whole : ℕ) → Power k whole → r ≡ whole → 0 ≡ work t k r
+own-works-out t k r whole p e = sym (work-out t k r (e ∙ p .is))
+
+pub own-works : (t : ℕ → ℕ → ℕ) (k r n : ℕ) → r < 2 ^ k → n ≡ t k r → n ≡ work t k r
+own-works t k r n h e = e ∙ sym (work-prepare t k r h)
+
 -- ---- all pebblers
+
+-- past round 2^k there is a lower level
+pub level : (k r whole : ℕ) → Power k whole → whole < r → r < 2 ^ suc k → suc (k - 1) ≡ k
+level zero r whole p l h = absurd (omega arith)
+level (suc k) r whole p l h = omega arith
 
 -- up to round 2^k P_k alone is listed
 module _ (t : ℕ → ℕ → ℕ) (k r base h whole : ℕ) (p : Power k whole) (early : r ≤ whole) (d : Done t k r h) where
@@ -94,10 +109,21 @@ module _ (t : ℕ → ℕ → ℕ) (k r base whole j half : ℕ) (e : suc j ≡ 
   twice : 2 ^ k ≡ 2 * half
   twice = rw (← e) (omega arith)
 
+  past : 2 ^ suc j + (r - whole) ≡ r
+  past = omega (arith, twice)
+
+  pub lower-round : k ≤ 20 → r < 2 ^ suc k → (j ≤ 20) × (0 < r - whole) × (r - whole < 2 ^ suc j)
+  lower-round l b = (omega arith, omega arith, omega (arith, twice))
+
+  pub upper-round : r - whole < half → (0 < half + (r - whole)) × (half + (r - whole) < 2 ^ suc j)
+  upper-round u = (omega arith, omega arith)
+
+  two-work : work t k r ≡ work t j (half + (r - whole)) + work t j (r - whole)
+  two-work = rw (← e, q .is) (ap (work t (suc j)) (sym past) ∙ work-split t j (r - whole) (omega arith))
+
   two : positions t k r base ≡ positions t j (half + (r - whole)) (base + half) ++ positions t j (r - whole) base
   two =
-      let d : 2 ^ suc j + (r - whole) ≡ r = omega (arith, twice) in
-      rw (← e, q .is) (ap (λ (x : ℕ). positions t (suc j) x base) (sym d) ∙ positions-split t j (r - whole) base (omega arith))
+      rw (← e, q .is) (ap (λ (x : ℕ). positions t (suc j) x base) (sym past) ∙ positions-split t j (r - whole) base (omega arith))
 
   sizes : length (positions t k r base) ≡ length (positions t j (half + (r - whole)) (base + half)) + length (positions t j (r - whole) base)
   sizes = ap length two ∙ length-append (positions t j (half + (r - whole)) (base + half)) (positions t j (r - whole) base)
@@ -112,6 +138,12 @@ module _ (t : ℕ → ℕ → ℕ) (k r base whole j half : ℕ) (e : suc j ≡ 
 
     pub lower-says : (list list′ : List ℕ) (at end : ℕ) → Written (positions t j (r - whole) base) at list end list′ → Written (positions t k r base) at list end list′
     lower-says list list′ at end w = written-as (positions t j (r - whole) base) (positions t k r base) list list′ at end one w
+
+    pub lower-works : (n : ℕ) → n ≡ work t j (r - whole) → n ≡ work t k r
+    lower-works n w = omega (arith, two-work, work-ended t j (half + (r - whole)) (omega arith))
+
+  pub both-work : (m n : ℕ) → m ≡ work t j (half + (r - whole)) → n ≡ work t j (r - whole) → m + n ≡ work t k r
+  both-work m n u v = omega (arith, two-work)
 
   module _ (list : List ℕ) (at : ℕ) (low : base + 2 ^ k ≤ 1048576) (room : at + length (positions t k r base) ≤ length list) where
     pub first-asks : (base + half + 2 ^ j ≤ 1048576) × (at + length (positions t j (half + (r - whole)) (base + half)) ≤ length list)
@@ -128,3 +160,7 @@ module _ (t : ℕ → ℕ → ℕ) (k r base whole j half : ℕ) (e : suc j ≡ 
           let us : List ℕ = positions t j (half + (r - whole)) (base + half) in
           let ls : List ℕ = positions t j (r - whole) base in
           written-as (us ++ ls) (positions t k r base) list list′ at end (sym two) (written-both us ls list at mid next w list′ end v)
+
+-- few hashes come in a round
+pub works-small : (s j r n : ℕ) → s ≤ 3 → j ≤ 20 → 0 < r → n ≡ work (schedule s) j r → n < 1048576
+works-small s j r n h l p e = omega (arith, work-lt (schedule s) (fair s h) j r p, pow-mono {i = j} {j = 20} l)

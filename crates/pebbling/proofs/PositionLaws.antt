@@ -14,9 +14,11 @@ use Rattle.refusals.specs.declared.Refusal.the-variants.{TooManyTicks, UnknownS
 use Rattle.pebbling.specs.declared.PositionsAnswer.the-variants.{Listed, Refused}
 use Rattle.pebbling.specs.Recursion.{schedule, positions, work}
 use Rattle.pebbling.specs.SideBySide.{positions-ended, work-ended}
-use Rattle.pebbling.specs.Promises.{Power, Tallied}
+use Rattle.pebbling.specs.Promises.{Power}
 use Rattle.pebbling.specs.PositionList.{positionsMustSay, positionsList, Positioned}
+use Rattle.pebbling.specs.Slots.{enough-slots}
 use Rattle.pebbling.proofs.HashLaws.{next-power}
+use Rattle.pebbling.proofs.HeldLaws.{slots-small}
 
 module _ (k s r : ℕ) (list : List ℕ) where
   refused : (why : Refusal) → positionsMustSay k s r list ≡ saidOf why → Positioned k s r list (Refused why) list
@@ -80,14 +82,27 @@ module _ (k s r : ℕ) (list : List ℕ) where
             pub round-asked : (0 < r) × (r < 2 ^ suc k)
             round-asked = (omega arith, omega (arith, next-power k end p))
 
-            module _ (n a w : ℕ) (t : Tallied s k r n a w) where
+            -- aside there is room for them
+            pub aside-asked : (0 + 2 ^ k ≤ 1048576) × (0 + length (positions (schedule s) k r 0) ≤ 38)
+            aside-asked = (
+              omega (arith, pow-mono {i = k} {j = 20} k≤20),
+              omega (arith, enough-slots s s≤3 k r 0 (omega (arith, round-asked)), slots-small s k k≤20),
+            )
+
+            module _ (n w : ℕ) (aside aside′ : List ℕ) (first : Written (positions (schedule s) k r 0) 0 aside n aside′ × (w ≡ work (schedule s) k r)) where
+              count : n ≡ length (positions (schedule s) k r 0)
+              count = omega (arith, first .0 .ends)
+
+              pub few : n ≤ 38
+              few = omega (arith, count, aside-asked .1)
+
               pub refused-length : length list < n → Positioned k s r list (Refused WrongLength) list
-              refused-length h = by-length n (sym (t .holds)) h
+              refused-length h = by-length n (sym count) h
 
               module _ (room : n ≤ length list) where
                 pub list-asked : (0 + 2 ^ k ≤ 1048576) × (0 + length (positions (schedule s) k r 0) ≤ length list)
-                list-asked = (omega (arith, pow-mono {i = k} {j = 20} k≤20), omega (arith, t .holds))
+                list-asked = (aside-asked .0, omega (arith, count))
 
                 pub listed-all : (next : ℕ) (list′ : List ℕ) → Written (positions (schedule s) k r 0) 0 list next list′ → Positioned k s r list (Listed n w) list′
                 listed-all next list′ x =
-                    listed n w list′ (t .holds) (t .does) room (written-front (positions (schedule s) k r 0) list list′ next (omega (arith, t .holds)) x)
+                    listed n w list′ count (first .1) room (written-front (positions (schedule s) k r 0) list list′ next (omega (arith, count)) x)

@@ -1,13 +1,21 @@
--- How many of its 2^k - 1 hashes an optimal P_k has still to do, c rounds before it puts out its y_0, in closed form: `left k c`. One round more takes
--- just what the schedule gives that round, which is shown with sums on both sides and by the parities of the two halves. Assumes nothing.
+-- How many of its 2^k - 1 hashes an optimal P_k has still to do, c rounds before it puts out its y_0, in closed form: `left k c`.
+--
+-- Let z be what c lacks to the power of two above it, c + z = 2^(len c). In the round that is c from the end the schedule's remainder is 2z, or 0 where c
+-- is a power of two. So its hashes are half of s, s being k - len z, or k + 1 at a power of two, and rounded up where k + c is odd (`busy-in`, `busy-at`).
+-- Twice what is left is the sum of these s, but for the rounding. The curve g k rises by k - len n from n to n + 1 (`g-suc`); from one power of two to the
+-- next c grows and z falls, so the sum is a constant less g k z there. That constant is g (k + 2) (2 ^ len c) - 2: the sum is then 0 at c = 0, and grows by
+-- k + 1 at each power of two (`step-in`, `step-at`). As for the rounding, a sum that is odd is followed by a step that is odd (`step-odd-in`,
+-- `step-odd-at`), so that the two halves are rounded as their sum is (`halves`). Sums stand on both sides, and no difference is cut off at 0.
+-- Assumes nothing.
 use mathlib.Core.Path.{_≡_, refl, sym, ap, _∙_}
+use mathlib.Core.List.{[], _∷_, map}
 use mathlib.Core.Logic.{_⊎_, inl, inr}
 use Prim.Native.Nat.{ℕ, zero, suc, _+_, _-_, _*_, _/_, _%_, _^_, _≤_, _<_}
 use native.Mathlib.Nat.{pow-succ', eq-zero-or-pos, eq-or-lt-of-le, le-dest, le-refl, add-sub-cancel-left, add-mul-mod-self-left, mod-self, mod-eq-of-lt}
 use native.Mathlib.Decide.{le-ind}
 use native.Mathlib.Omega.{arith}
 use lib.Pow.{pow-pos, pow-mono, pow-lt, pow-add}
-use Rattle.pebbling.specs.Len.{exp-lt, len, len-law, len-le, lt-len, len-unique, len-pos, len-twice, len-zero, len-pow, len-suc}
+use Rattle.pebbling.specs.Len.{exp-lt, len, lenIn, len-law, len-le, lt-len, len-unique, len-pos, len-twice, len-zero, len-pow, len-suc}
 
 -- ---- the curve g, and what is left
 
@@ -20,6 +28,11 @@ twiceLeft k c = g (k + 2) (2 ^ len c) - g k (2 ^ len c - c) - 2
 
 unfoldable pub left : ℕ → ℕ → ℕ
 left k c = ((k + c) % 2 + twiceLeft k c) / 2
+
+-- for k = 4: before rounds 8 to 16, whose hashes are 2, 2, 1, 1, 2, 2, 2, 3 and 0
+pub left-of-four : map (left 4) (8 ∷ 7 ∷ 6 ∷ 5 ∷ 4 ∷ 3 ∷ 2 ∷ 1 ∷ 0 ∷ []) ≡ 15 ∷ 13 ∷ 11 ∷ 10 ∷ 9 ∷ 7 ∷ 5 ∷ 3 ∷ 0 ∷ []
+unfolding left twiceLeft g len lenIn
+left-of-four = refl
 
 -- the value of g where the length of n is l and k is l + m
 g-at : (l m n : ℕ) → len n ≡ l → g (l + m) n ≡ n * m + 2 ^ l

@@ -4,7 +4,8 @@ use Prim.Native.Nat.{ℕ, suc, _+_, _^_, _≤_, _<_}
 use lib.ListN.{length}
 use Rattle.pebbling.specs.Len.{len}
 use Rattle.pebbling.specs.OptimalLeft.{g}
-use Rattle.pebbling.specs.Recursion.{done, held, schedule, positions, work}
+use Rattle.pebbling.specs.Recursion.{done, held, schedule as hashesOf}
+use Rattle.pebbling.specs.SideBySide.{sideHeldCount}
 
 pub record Power (k p : ℕ) : Type 0 where
   pub is : p ≡ 2 ^ k
@@ -34,15 +35,10 @@ pub record Holds (k h n : ℕ) : Type 0 where
   pub some : 0 < n
   pub small : n ≤ k + 1
 
--- two numbers whose sum fits a u32
-abbrev pub Fitting : ℕ → ℕ → Type 0
-Fitting a b = a + b ≤ 4294967295
-
--- P_k in its round r, its children with it: the values held before the round and after it, and its hashes
-pub record Tallied (s k r before after works : ℕ) : Type 0 where
-  pub holds : before ≡ length (positions (schedule s) k r 0)
-  pub leaves : after ≡ length (positions (schedule s) k (suc r) 0)
-  pub does : works ≡ work (schedule s) k r
-  pub few : before ≤ 41
-  pub fewer : after ≤ 41
-  pub small : works < 2 ^ k
+-- the children of P_k in their round n, with `more` values counted before; there are few enough of all of them
+pub record Aside (s k n more : ℕ) : Type 0 where
+  pub schedule : s ≤ 3
+  pub small : k ≤ 20
+  pub from : 0 < n
+  pub before : n < 2 ^ k
+  pub few : more + sideHeldCount (hashesOf s) k n ≤ 41

@@ -1,13 +1,14 @@
 // One pebbler P_k up to its round 2^k: the hashes of a preparing round under each schedule, the hashes done
 // before a round, and the values held after so many hashes.
 ghost use mathlib.Core.Path.{_≡_};
-ghost use Prim.Native.Nat.{_-_, _^_, _≤_, _<_};
+ghost use Prim.Native.Nat.{_+_, _-_, _^_, _≤_, _<_};
 ghost use Rattle.pebbling.specs.Len.{len};
-ghost use Rattle.pebbling.specs.OptimalLeft.{left};
+ghost use Rattle.pebbling.specs.OptimalLeft.{left as hashesLeft};
 ghost use Rattle.pebbling.specs.Promises.{Curve, Done, Holds};
 ghost use Rattle.pebbling.specs.Recursion.{rushing, speed2, optimal};
 ghost use Rattle.pebbling.specs.Recursion.{schedule as hashesOf};
 use super::RoundNumber;
+use super::RoundsLeft;
 use super::powers::bits;
 use super::powers::power;
 use super::rounds_left;
@@ -66,7 +67,8 @@ pub fn hashes_in(schedule: u32, k: u32, round: RoundNumber) -> u32
     }
 }
 
-// n * (k - len n) + 2^(len n): what the hashes that are left add up by.
+// n * (k - len n) + 2^(len n). From n to n + 1 it rises by k - len n: while the length stays that is plain, and where
+// n + 1 is a power of two the second term gains the n + 1 that the first one loses. So it is a sum of such steps.
 fn curve(k: u32, n: u32) -> u32
     requires { ⌜ (k ≤ 22) × (n ≤ 1048576) × (len n ≤ k) ⌝ }
     ensures { λ r. ⌜ Curve k n r ⌝ }
@@ -75,11 +77,21 @@ fn curve(k: u32, n: u32) -> u32
     n * (k - l) + power(l)
 }
 
-// The hashes that an optimal P_k has still to do, c rounds before its round 2^k.
-fn optimal_left(k: u32, c: u32) -> u32
-    requires { ⌜ (0 < k) × (k ≤ 20) × (c ≤ 2 ^ (k - 1)) ⌝ }
-    ensures { λ r. ⌜ r ≡ left k c ⌝ }
+// The hashes that an optimal P_k has still to do, by its rounds left: they are done before its round 2^k, to which it
+// has c rounds, 2^k less; `whole` is 2^k. With z for what c lacks to the power of two above it, the round itself has half of k - len z hashes,
+// or half of k + 1 where c is a power of two, rounded up where k + c is odd. From one power of two to the next c grows
+// and z falls, so twice what is left is a constant less the curve at z. The constant is the curve for k + 2 at the power
+// above, less 2: that gives 0 at c = 0, and a step of k + 1 at each power. All the rounding comes to that of the sum,
+// since an odd sum is only ever followed by an odd step.
+//
+// For k = 4 rounds 8 to 15 have 2, 2, 1, 1, 2, 2, 2 and 3 hashes. Before round 8, c = 8, above = 16 and z = 8: the
+// curves are 48 and 16, and half of 0 + (48 - 16 - 2) is 15. Before round 9, c = 7, above = 8 and z = 1: they are 32
+// and 5, and half of 1 + (32 - 5 - 2) is 13. Then 11, 10, 9, 7, 5 and 3 are left, and 0 before round 16.
+fn optimal_left(k: u32, whole: u32, left: RoundsLeft) -> u32
+    requires { ⌜ (0 < k) × (k ≤ 20) × (whole ≡ 2 ^ k) × (2 ^ k ≤ left .0) × (left .0 ≤ 2 ^ k + 2 ^ (k - 1)) ⌝ }
+    ensures { λ r. ⌜ r ≡ hashesLeft k (left .0 - 2 ^ k) ⌝ }
 {
+    let c = left.0 - whole;
     let above = power(bits(c));
     let twice = curve(k + 2, above) - curve(k, above - c) - 2;
     ((k + c) % 2 + twice) / 2
@@ -103,12 +115,13 @@ fn optimal_done(k: u32, round: RoundNumber) -> u32
     ensures { λ h. ⌜ Done optimal k (round .0) h ⌝ }
 {
     let r = round.0;
-    if r < power(k - 1) {
+    let half = power(k - 1);
+    if r < half {
         return 0;
     }
     let whole = power(k);
     let left = rounds_left(k, round);
-    whole - 1 - optimal_left(k, left.0 - whole)
+    whole - 1 - optimal_left(k, whole, left)
 }
 
 // The hashes that P_k has done before its round, which is at most 2^k, by the schedule's number. Before round

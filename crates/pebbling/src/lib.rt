@@ -1,15 +1,15 @@
 // What a card holds before a round and hashes in it, in numbers only: no value of the chain is looked at.
-// `hashes` has one pebbler's schedule and the hashes that it has done, `tally` counts over all the pebblers
-// that run, and `positions` below is the position list. Each costs time by k and never by 2^k.
+// `hashes` has one pebbler's schedule and the hashes that it has done, `held` counts the values of all the
+// pebblers that run, and `positions` below is the position list. Each costs time by k and never by 2^k.
 ghost use Prim.Native.Nat.{suc, _^_, _≤_};
 ghost use Rattle.pebbling.specs.Promises.{Left};
 ghost use Rattle.pebbling.specs.PositionList.{Positioned};
 use refusals::Refusal;
 
 pub mod hashes;
+pub mod held;
 mod position_list;
 pub mod powers;
-pub mod tally;
 
 // A round of a pebbler, counted from 1. The rounds of P_k are 1 to 2^(k+1) - 1.
 pub struct RoundNumber(pub u32);
@@ -27,6 +27,9 @@ pub fn rounds_left(k: u32, round: RoundNumber) -> RoundsLeft
     RoundsLeft(left)
 }
 
+// The positions of the longest list: no k and schedule have more.
+const MOST: usize = 38;
+
 // What the position list answers.
 pub enum PositionsAnswer {
     // The positions were written: how many, and the hashes of the round.
@@ -38,7 +41,8 @@ pub enum PositionsAnswer {
 // The position list: writes the positions that a card of 2^k ticks holds before `round` to the front of
 // `list`, in falling order. Refuses k over 20 (2), a schedule over 3 (3), a round that is not from 1 to
 // 2^(k+1) (5), and a list with fewer entries than positions (4), in this order, and then changes nothing.
-// Entries behind the positions stay.
+// Entries behind the positions stay. They are listed aside first: how many there are is known then, and a list that is too
+// short is left alone.
 pub fn positions(k: u32, schedule: u32, round: u32, list: &mut [u32]) -> PositionsAnswer
     ensures { λ answer. ⌜ Positioned k schedule round (now (list .entry)) answer (now (list .exit)) ⌝ }
 {
@@ -48,27 +52,30 @@ pub fn positions(k: u32, schedule: u32, round: u32, list: &mut [u32]) -> Positio
     if 3 < schedule {
         return PositionsAnswer::Refused(Refusal::UnknownSchedule);
     }
-    if round == 0 {
+    let round = RoundNumber(round);
+    if round.0 == 0 {
         return PositionsAnswer::Refused(Refusal::BadRecord);
     }
     let end = powers::power(k + 1);
-    if end < round {
+    if end < round.0 {
         return PositionsAnswer::Refused(Refusal::BadRecord);
     }
-    if round == end {
+    if round.0 == end {
         return PositionsAnswer::Listed {
             count: 0,
             hashes: 0,
         };
     }
-    let counted = tally::count(schedule, k, RoundNumber(round));
-    let count = counted.before;
-    if list.len() < count as usize {
+    let mut aside = [0u32; MOST];
+    let listed = position_list::list_all(schedule, k, round, 0, 0, &mut aside);
+    let entries = listed.end;
+    if list.len() < entries {
         return PositionsAnswer::Refused(Refusal::WrongLength);
     }
-    position_list::list_all(schedule, k, RoundNumber(round), 0, 0, list);
+    position_list::list_all(schedule, k, round, 0, 0, list);
+    let count = entries as u32;
     PositionsAnswer::Listed {
         count,
-        hashes: counted.work,
+        hashes: listed.hashes,
     }
 }

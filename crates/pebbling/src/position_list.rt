@@ -1,13 +1,34 @@
-// Writes positions into a lent list, pebbler by pebbler in the order in which they fall.
+// Writes positions into a lent list, pebbler by pebbler in the order in which they fall, and adds up the hashes of the round
+// on the way.
+ghost use mathlib.Core.Path.{_≡_};
 ghost use Prim.Native.Nat.{suc, _+_, _^_, _≤_, _<_};
 ghost use lib.ListN.{length};
 ghost use Rattle.lists.specs.Written.{Written};
-ghost use Rattle.pebbling.specs.Recursion.{held, positions};
+ghost use Rattle.pebbling.specs.Recursion.{held, positions, work};
 ghost use Rattle.pebbling.specs.Recursion.{schedule as hashesOf};
 use super::RoundNumber;
 use super::hashes::hashes_done;
+use super::hashes::hashes_in;
 use super::powers::bits;
 use super::powers::power;
+
+// What listing pebblers comes to: the entry behind their last position, and their hashes in the round.
+pub struct Listing {
+    pub end: usize,
+    pub hashes: u32,
+}
+
+// The hashes of P_k itself in its round: round 2^k has none.
+fn own_hashes(schedule: u32, k: u32, round: RoundNumber) -> u32
+    requires { ⌜ (schedule ≤ 3) × (k ≤ 20) × (0 < round .0) × (round .0 ≤ 2 ^ k) ⌝ }
+    ensures { λ n. ⌜ n ≡ work (hashesOf schedule) k (round .0) ⌝ }
+{
+    let r = round.0;
+    if r == power(k) {
+        return 0;
+    }
+    hashes_in(schedule, k, round)
+}
 
 // P_k itself, h hashes into its preparing rounds: its newest y, and behind it the finished ones up to y_k.
 // Writes from `at` on, and returns the entry behind the last.
@@ -28,7 +49,9 @@ fn list_own(k: u32, h: u32, base: u32, at: usize, list: &mut [u32]) -> usize
     next
 }
 
-// P_k in any of its rounds, with its children: two P_(k-1), as `tally::count` goes, the upper half first.
+// P_k in any of its rounds, with its children. Its round 2^k + n is round n of a P_(k-1) over the lower half of its
+// positions, and round 2^(k-1) + n of one over the upper half, which is listed first and has run all its rounds once n is
+// 2^(k-1).
 pub fn list_all(
     schedule: u32,
     k: u32,
@@ -36,16 +59,19 @@ pub fn list_all(
     base: u32,
     at: usize,
     list: &mut [u32],
-) -> usize
+) -> Listing
     requires { ⌜ (schedule ≤ 3) × (k ≤ 20) × (0 < round .0) × (round .0 < 2 ^ suc k) × (base + 2 ^ k ≤ 1048576)
         × (at + length (positions (hashesOf schedule) k (round .0) base) ≤ length (now list)) ⌝ }
-    ensures { λ end. ⌜ Written (positions (hashesOf schedule) k (round .0) base) at (now (list .entry)) end (now (list .exit)) ⌝ }
+    ensures { λ l. ⌜ Written (positions (hashesOf schedule) k (round .0) base) at (now (list .entry)) (l .end) (now (list .exit))
+        × (l .hashes ≡ work (hashesOf schedule) k (round .0)) ⌝ }
 {
     let r = round.0;
     let whole = power(k);
     if r <= whole {
         let h = hashes_done(schedule, k, round);
-        return list_own(k, h, base, at, list);
+        let end = list_own(k, h, base, at, list);
+        let hashes = own_hashes(schedule, k, round);
+        return Listing { end, hashes };
     }
     let n = r - whole;
     let j = k - 1;
@@ -55,6 +81,14 @@ pub fn list_all(
     }
     let m = half + n;
     let middle = base + half;
-    let next = list_all(schedule, j, RoundNumber(m), middle, at, list);
-    list_all(schedule, j, RoundNumber(n), base, next, list)
+    let upper = list_all(schedule, j, RoundNumber(m), middle, at, list);
+    let next = upper.end;
+    let lower = list_all(schedule, j, RoundNumber(n), base, next, list);
+    let first = upper.hashes;
+    let second = lower.hashes;
+    let hashes = first + second;
+    Listing {
+        end: lower.end,
+        hashes,
+    }
 }

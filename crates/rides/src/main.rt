@@ -4,6 +4,7 @@
 // post's record.
 use card::RoundAnswer;
 use pebbling::PositionsAnswer;
+use pebbling::RoundNumber;
 use post::OfferAnswer;
 use post::SettleAnswer;
 use printing::print;
@@ -92,9 +93,9 @@ fn run_round(ride: Ride, card: &mut [u8; CARD], post: &mut [u8; POST]) -> Turn {
 }
 
 // The position list is asked how much is held before a round.
-fn count_held(ride: Ride, k: u32, schedule: u32, round: u32) -> Turn {
+fn count_held(ride: Ride, k: u32, schedule: u32, round: RoundNumber) -> Turn {
     let mut list = [0u32; LIST];
-    match pebbling::positions(k, schedule, round, &mut list) {
+    match pebbling::positions(k, schedule, round.0, &mut list) {
         PositionsAnswer::Refused(why) => over(b"position list", why),
         PositionsAnswer::Listed { count, hashes: _ } => Turn::On(Ride {
             credited: ride.credited,
@@ -115,7 +116,8 @@ fn run_rounds(k: u32, schedule: u32, card: &mut [u8; CARD], post: &mut [u8; POST
     };
     let mut rounds: u32 = 0;
     while rounds < ROUNDS {
-        let Turn::On(counted) = count_held(ride, k, schedule, rounds + 1) else {
+        let next = rounds + 1;
+        let Turn::On(counted) = count_held(ride, k, schedule, RoundNumber(next)) else {
             break;
         };
         let Turn::On(after) = run_round(counted, card, post) else {

@@ -14,7 +14,7 @@ use Rattle.lists.specs.Values.{values, values-length}
 use Rattle.oneway.specs.declared.Chain.{Chain}
 use Rattle.oneway.specs.Step.{width, step}
 use Rattle.pebbling.specs.HashesDone.{fair}
-use Rattle.pebbling.specs.Len.{len, len-law, len-le, len-lt, lt-len, not-zero}
+use Rattle.pebbling.specs.Len.{len, len-law, len-le, len-lt, lt-len}
 use Rattle.pebbling.specs.Promises.{Power, Bits, Left}
 use Rattle.pebbling.specs.Recursion.{schedule, positions}
 use Rattle.pebbling.specs.SideBySide.{work-split}
@@ -126,29 +126,21 @@ descend {chain} {s} {old} {new} (suc k) n j m l e asked = go (λ l e a. descend 
         let b = ih (omega arith) (omega arith) a in
         (b .0, λ rd wr h new′ moves. lower-alone asked 0<n late (rw d (b .1 rd wr h new′ moves)))
 
--- what the code has worked out: P_j is the highest child that runs, and it is in its round m
-pub record Splitting (chain : Chain) (s k n j half m : ℕ) (old new : List ℕ) : Type 0 where
+-- what the code has worked out: P_j is the highest child that runs, it is in its round m, and c rounds are left
+pub record Splitting (chain : Chain) (s k n c j half m : ℕ) (old new : List ℕ) : Type 0 where
   pub asked : Advancing chain s k (2 ^ k + n) old new
   pub under : suc j ≤ k
   pub is : half ≡ 2 ^ j
   pub round : n + 2 ^ suc j ≡ m + 2 ^ k
   pub some : 0 < m
-  pub most : m ≤ half
+  pub left : m + c ≡ 2 ^ suc j
+  pub least : half ≤ c
 
-module _ {chain : Chain} {s k n : ℕ} {old new : List ℕ} (asked : Advancing chain s k (2 ^ k + n) old new) (0<n : 0 < n) where
-  pub level : suc (k - 1) ≡ k
-  level = omega (arith, not-zero k n 0<n (omega (arith, asked .before)))
+module _ {chain : Chain} {s k n c : ℕ} {old new : List ℕ} (asked : Advancing chain s k (2 ^ k + n) old new) (left : (0 < n) × (n + c ≡ 2 ^ k)) where
+  above : (0 < c) × (c < 2 ^ k)
+  above = (omega (arith, left .1, asked .before), omega (arith, left .0, left .1))
 
-  pub rounds-asked : (k - 1 ≤ 20) × (n ≤ 2 ^ suc (k - 1))
-  rounds-asked = (omega (arith, asked .small), rw level (omega (arith, asked .before)))
-
-  module _ {c l : ℕ} (left : Left (k - 1) n c) (b : Bits c l) where
-    whole : n + c ≡ 2 ^ k
-    whole = left .whole ∙ ap (λ (x : ℕ). 2 ^ x) level
-
-    above : (0 < c) × (c < 2 ^ k)
-    above = (omega (arith, whole, asked .before), omega (arith, whole))
-
+  module _ {l : ℕ} (b : Bits c l) where
     pub bits-some : (1 ≤ l) × (l - 1 ≤ 21)
     bits-some = (omega (arith, b .is, lt-len c 0 (above .0)), omega (arith, b .is, len-le c k (above .1), asked .small))
 
@@ -165,27 +157,28 @@ module _ {chain : Chain} {s k n : ℕ} {old new : List ℕ} (asked : Advancing c
       pub ended-fits : (2 * half ≤ all) × (all - 2 * half ≤ n)
       ended-fits =
           let g : 2 ^ suc (l - 1) ≤ 2 ^ k = rw under (pow-mono (len-le c k (above .1))) in
-          (omega (arith, q .is, p .is), omega (arith, q .is, p .is, whole, below))
+          (omega (arith, q .is, p .is), omega (arith, q .is, p .is, left .1, below))
 
-      pub splitting : Splitting chain s k n (l - 1) half (n - (all - 2 * half)) old new
+      pub splitting : Splitting chain s k n c (l - 1) half (n - (all - 2 * half)) old new
       splitting =
           record {
             asked = asked;
             under = omega (arith, under, len-le c k (above .1));
             is = q .is;
             round = omega (arith, q .is, p .is, ended-fits);
-            some = omega (arith, q .is, p .is, whole, below, ended-fits);
-            most = omega (arith, q .is, p .is, whole, least, ended-fits);
+            some = omega (arith, q .is, p .is, left .1, below, ended-fits);
+            left = omega (arith, q .is, p .is, left .1, ended-fits);
+            least = omega (arith, q .is, least);
           }
 
-module _ {chain : Chain} {s k n j half m : ℕ} {old new : List ℕ} (p : Splitting chain s k n j half m old new) where
+module _ {chain : Chain} {s k n c j half m : ℕ} {old new : List ℕ} (p : Splitting chain s k n c j half m old new) where
   halves : Same chain s old new k n (suc j) m
   halves = descend k n j m (p .under) (p .round) (p .asked)
 
   -- P_j puts out
-  module _ (e : m ≡ half) where
+  module _ (e : c ≡ half) where
     last : m ≡ 2 ^ j
-    last = e ∙ p .is
+    last = omega (arith, p .is, p .left)
 
     ended : 2 ^ j ≤ m
     ended = omega (arith, last)
@@ -198,12 +191,12 @@ module _ {chain : Chain} {s k n j half m : ℕ} {old new : List ℕ} (p : Splitt
     last-moves moves = halves .1 _ _ _ _ (lower-alone (halves .0) (p .some) ended (out-moves (lower-alone-asks (halves .0) (p .some) ended) last moves))
 
   -- it prepares, behind the children of the P_j over the upper half
-  module _ (not : m ≡ half → ⊥) where
+  module _ (not : c ≡ half → ⊥) where
     early : m < 2 ^ j
-    early = omega (arith, p .is, p .most)
+    early = omega (arith, p .is, p .left, p .least)
 
-    pub upper-asks : Advancing chain s j (2 ^ j + m) old new × (0 < m)
-    upper-asks = (upper-first-asks (halves .0) (p .some) early, p .some)
+    pub upper-asks : Advancing chain s j (2 ^ j + m) old new × ((0 < m) × (m + (c - half) ≡ 2 ^ j))
+    upper-asks = (upper-first-asks (halves .0) (p .some) early, (p .some, omega (arith, p .is, p .left, p .least)))
 
     module _ {rd wr h : ℕ} {mid : List ℕ} (upper : Advanced chain s j (2 ^ j + m) old new rd wr h mid) (kept : length mid ≡ length new) where
       pub upper-fits : (rd ≤ length old) × (wr ≤ length mid)
@@ -226,8 +219,8 @@ module _ {chain : Chain} {s k r whole : ℕ} {old new : List ℕ} (asked : Advan
   since : r ≡ 2 ^ k + (r - whole)
   since = omega (arith, p .is)
 
-  pub late-asks : Advancing chain s k (2 ^ k + (r - whole)) old new × (0 < r - whole)
-  late-asks = (rw since at asked, omega arith)
+  pub late-asks : {c : ℕ} → Left k r c → Advancing chain s k (2 ^ k + (r - whole)) old new × ((0 < r - whole) × (r - whole + c ≡ 2 ^ k))
+  late-asks left = (rw since at asked, (omega arith, omega (arith, p .is, left .whole)))
 
   pub late-moves : {rd wr h : ℕ} {new′ : List ℕ} → Advanced chain s k (2 ^ k + (r - whole)) old new rd wr h new′ → Advanced chain s k r old new rd wr h new′
   late-moves moves = rw since moves

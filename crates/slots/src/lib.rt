@@ -12,6 +12,7 @@ ghost use Rattle.slots.specs.Hashing.{Opening, Opened, Hashing, Hashed};
 ghost use Rattle.slots.specs.Moves.{Moves, Advancing, Advanced, Fits};
 use oneway::Chain;
 use pebbling::RoundNumber;
+use pebbling::RoundsLeft;
 use pebbling::hashes::hashes_done;
 use pebbling::hashes::hashes_in;
 use pebbling::hashes::held_count_after;
@@ -139,41 +140,38 @@ fn together(upper: Moved, lower: Moved) -> Moved
     }
 }
 
-// P_0 to P_(k-1) side by side, each in this round; one that has ended is followed into its own children, 2^i rounds on. The
-// highest bit of the rounds left names the highest that runs, P_j. Up to its round 2^j its values stand behind those of P_0 to
-// P_(j-1), which are in the same round then; in round 2^j they have ended.
+// P_0 to P_(k-1) side by side, each in this round, and the rounds left until none of them runs; one that has ended is followed
+// into its own children, 2^i rounds on. The highest bit of the rounds left names the highest that runs, P_j: its round is the
+// round less the rounds of those that have ended, and its rounds left are these. Up to its round 2^j its values stand behind
+// those of P_0 to P_(j-1), which are in the same round then and have 2^j rounds left less; in round 2^j they have ended.
 fn children(
     chain: Chain,
     schedule: u32,
     k: u32,
     round: RoundNumber,
+    left: RoundsLeft,
     old: &[u8],
     new: &mut [u8],
 ) -> Moved
     requires { ⌜ Advancing chain schedule k (2 ^ k + round .0) (now old) (now new) ⌝ }
-    requires { ⌜ 0 < round .0 ⌝ }
+    requires { ⌜ (0 < round .0) × (round .0 + left .0 ≡ 2 ^ k) ⌝ }
     ensures { λ m. ⌜ Advanced chain schedule k (2 ^ k + round .0) (now (old .entry)) (now (new .entry)) (m .read) (m .written) (m .hashes) (now (new .exit)) ⌝ }
 {
     let r = round.0;
-    let left = rounds_left(k - 1, round);
-    let j = bits(left.0) - 1;
+    let c = left.0;
+    let j = bits(c) - 1;
     let half = power(j);
     let ended = power(k) - 2 * half;
     let n = r - ended;
-    if n == half {
+    if c == half {
         return put_out(chain, j, old, new);
     }
-    let upper = children(chain, schedule, j, RoundNumber(n), old, new);
+    let own = RoundNumber(n);
+    let rest = c - half;
+    let upper = children(chain, schedule, j, own, RoundsLeft(rest), old, new);
     let read = upper.read;
     let written = upper.written;
-    let lower = prepare(
-        chain,
-        schedule,
-        j,
-        RoundNumber(n),
-        &old[read..],
-        &mut new[written..],
-    );
+    let lower = prepare(chain, schedule, j, own, &old[read..], &mut new[written..]);
     together(upper, lower)
 }
 
@@ -198,5 +196,6 @@ pub fn advance(
         return put_out(chain, k, old, new);
     }
     let n = r - whole;
-    children(chain, schedule, k, RoundNumber(n), old, new)
+    let left = rounds_left(k, round);
+    children(chain, schedule, k, RoundNumber(n), left, old, new)
 }

@@ -62,11 +62,11 @@ fn run_round(function: u32, record: &mut [u8], out: &mut [u8; 16]) -> u32 {
 // The 31 rounds of the card, and one more, which is refused. Answers all hashes.
 fn run_rounds(function: u32, record: &mut [u8], out: &mut [u8; 16]) -> u32 {
     let mut total: u32 = 0;
-    let mut round: u32 = 0;
-    while round < 32 {
+    let mut rounds: u32 = 0;
+    while rounds < 32 {
         let hashes = run_round(function, record, out);
         total = std::num::wrapping_add_u32(total, hashes);
-        round += 1;
+        rounds += 1;
     }
     total
 }

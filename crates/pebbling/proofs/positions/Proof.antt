@@ -1,7 +1,8 @@
--- `positions` meets its contract. Each way out is a case of the definition, which the tests on the way there pick (PositionLaws); the counts are what
--- `tally::count` promises and the list is what `position_list::list_all` writes. Assumes nothing.
+-- `positions` meets its contract. Each way out is a case of the definition, which the tests on the way there pick (PositionLaws); how many
+-- there are, the list and the hashes are what `position_list::list_all` promises, aside and then in the list. Assumes nothing.
+use native.Mathlib.Omega.{arith}
 use borrow.Author.Needs.{needs}
-use Rattle.pebbling.proofs.PositionLaws.{refused-k, refused-schedule, refused-zero, refused-late, listed-none, round-asked, refused-length, list-asked, listed-all}
+use Rattle.pebbling.proofs.PositionLaws.{refused-k, refused-schedule, refused-zero, refused-late, listed-none, round-asked, aside-asked, few, refused-length, list-asked, listed-all}
 use Rattle.pebbling.proofs.positions.Statement.{statement}
 use Rattle.pebbling.proofs.positions.Tie as tie
 
@@ -12,7 +13,9 @@ returns-2 : tie.Need-returns-2
 returns-2 c = refused-schedule _ _ _ _ (c .before .if1 .left) (c .if2 .taken)
 
 returns-3 : tie.Need-returns-3
-returns-3 c = refused-zero _ _ _ _ (c .before .before .if1 .left) (c .before .if2 .left) (c .if3 .taken)
+returns-3 c =
+    let n = c .before .before in
+    refused-zero _ _ _ _ (n .before .if1 .left) (n .if2 .left) (c .if3 .taken)
 
 add-power : tie.Need-add-power
 add-power c = search needs
@@ -22,53 +25,85 @@ power-requires c κs = search needs
 
 returns-4 : tie.Need-returns-4
 returns-4 c =
-    let z = c .before .before in
-    refused-late _ _ _ _ (z .before .before .if1 .left) (z .before .if2 .left) (z .if3 .left) _ (c .before .power .ensures) (c .if4 .taken)
+    let p = c .before .before in
+    let z = p .before in
+    let n = z .before .before in
+    refused-late _ _ _ _ (n .before .if1 .left) (n .if2 .left) (z .if3 .left) _ (p .power .ensures) (c .if4 .taken)
 
 returns-5 : tie.Need-returns-5
 returns-5 c =
-    let p = c .before .before in
+    let l = c .before .before in
+    let p = l .before .before in
     let z = p .before in
-    listed-none _ _ _ _ (z .before .before .if1 .left) (z .before .if2 .left) (z .if3 .left) _ (p .power .ensures) (c .before .if4 .left) (c .if5 .taken)
+    let n = z .before .before in
+    listed-none _ _ _ _ (n .before .if1 .left) (n .if2 .left) (z .if3 .left) _ (p .power .ensures) (l .if4 .left) (c .if5 .taken)
 
-count-requires : tie.Need-count-requires
-count-requires c κs =
-    let p = c .before .before in
-    let z = p .before in
-    let a = round-asked _ _ _ (z .before .before .before .before .args .list .now) (z .before .before .if1 .left) (z .before .if2 .left) (z .if3 .left) _ (p .power .ensures) (c .before .if4 .left) (c .if5 .left) in
-    (z .before .if2 .left, z .before .before .if1 .left, a .0, a .1)
-
-cast-if6 : tie.Need-cast-if6
-cast-if6 c = search needs
-
-returns-6 : tie.Need-returns-6
-returns-6 c =
-    let e = c .before .before in
-    let p = e .before .before in
-    let z = p .before in
-    refused-length _ _ _ _ (z .before .before .if1 .left) (z .before .if2 .left) (z .if3 .left) _ (p .power .ensures) (e .before .if4 .left) (e .if5 .left) _ _ _ (c .before .count .ensures) (c .if6 .taken)
+slice-aggregate-list-all : tie.Need-slice-aggregate-list-all
+slice-aggregate-list-all c = search needs
 
 list-all-requires : tie.Need-list-all-requires
 list-all-requires c κs =
-    let e = c .before .before .before in
-    let p = e .before .before in
+    let e = c .before in
+    let l = e .before .before in
+    let p = l .before .before in
     let z = p .before in
-    let l = z .before .before .before .before .args .list .now in
-    let a = round-asked _ _ _ l (z .before .before .if1 .left) (z .before .if2 .left) (z .if3 .left) _ (p .power .ensures) (e .before .if4 .left) (e .if5 .left) in
-    let b = list-asked _ _ _ l (z .before .before .if1 .left) (z .before .if2 .left) (z .if3 .left) _ (p .power .ensures) (e .before .if4 .left) (e .if5 .left) _ _ _ (c .before .before .count .ensures) (c .before .if6 .left) in
-    (z .before .if2 .left, z .before .before .if1 .left, a .0, a .1, b .0, b .1)
+    let n = z .before .before in
+    let list = n .before .before .before .args .list .now in
+    let a = round-asked _ _ _ list (n .before .if1 .left) (n .if2 .left) (z .if3 .left) _ (p .power .ensures) (l .if4 .left) (e .if5 .left) in
+    let b = aside-asked _ _ _ list (n .before .if1 .left) (n .if2 .left) (z .if3 .left) _ (p .power .ensures) (l .if4 .left) (e .if5 .left) in
+    (n .if2 .left, n .before .if1 .left, a .0, a .1, b .0, b .1)
+
+returns-6 : tie.Need-returns-6
+returns-6 c =
+    let a = c .before .before in
+    let e = a .before .before in
+    let l = e .before .before in
+    let p = l .before .before in
+    let z = p .before in
+    let n = z .before .before in
+    refused-length _ _ _ _ (n .before .if1 .left) (n .if2 .left) (z .if3 .left) _ (p .power .ensures) (l .if4 .left) (e .if5 .left) _ _ _ _ (a .list-all .ensures) (c .if6 .taken)
+
+list-all-requires-2 : tie.Need-list-all-requires-2
+list-all-requires-2 c κs =
+    let f = c .before in
+    let a = f .before .before in
+    let e = a .before .before in
+    let l = e .before .before in
+    let p = l .before .before in
+    let z = p .before in
+    let n = z .before .before in
+    let list = n .before .before .before .args .list .now in
+    let x = round-asked _ _ _ list (n .before .if1 .left) (n .if2 .left) (z .if3 .left) _ (p .power .ensures) (l .if4 .left) (e .if5 .left) in
+    let y = list-asked _ _ _ list (n .before .if1 .left) (n .if2 .left) (z .if3 .left) _ (p .power .ensures) (l .if4 .left) (e .if5 .left) _ _ _ _ (a .list-all .ensures) (f .if6 .left) in
+    (n .if2 .left, n .before .if1 .left, x .0, x .1, y .0, y .1)
+
+cast-count : tie.Need-cast-count
+cast-count c =
+    let f = c .before .before .before .before in
+    let a = f .before .before in
+    let e = a .before .before in
+    let l = e .before .before in
+    let p = l .before .before in
+    let z = p .before in
+    let n = z .before .before in
+    let list = n .before .before .before .args .list .now in
+    omega (arith, few _ _ _ list (n .before .if1 .left) (n .if2 .left) (z .if3 .left) _ (p .power .ensures) (l .if4 .left) (e .if5 .left) _ _ _ _ (a .list-all .ensures))
 
 same-length : tie.Need-same-length
 same-length c = search needs
 
 returns-7 : tie.Need-returns-7
 returns-7 c =
-    let f = c .before .before .before .before in
-    let e = f .before .before in
-    let p = e .before .before in
+    let b = c .before .before in
+    let f = b .before .before in
+    let a = f .before .before in
+    let e = a .before .before in
+    let l = e .before .before in
+    let p = l .before .before in
     let z = p .before in
-    listed-all _ _ _ (z .before .before .before .before .args .list .now) (z .before .before .if1 .left) (z .before .if2 .left) (z .if3 .left) _ (p .power .ensures) (e .before .if4 .left) (e .if5 .left) _ _ _
-    (f .before .count .ensures) (f .if6 .left) _ _ (c .before .before .list-all .ensures)
+    let n = z .before .before in
+    listed-all _ _ _ (n .before .before .before .args .list .now) (n .before .if1 .left) (n .if2 .left) (z .if3 .left) _ (p .power .ensures) (l .if4 .left) (e .if5 .left) _ _ _ _
+    (a .list-all .ensures) (f .if6 .left) _ _ (b .list-all2 .ensures .0)
 
 pub positions-spec : {M : Type 1} → statement M
 positions-spec =
@@ -81,9 +116,10 @@ positions-spec =
     power-requires
     returns-4
     returns-5
-    count-requires
-    cast-if6
-    returns-6
+    slice-aggregate-list-all
     list-all-requires
+    returns-6
+    list-all-requires-2
+    cast-count
     same-length
     returns-7)

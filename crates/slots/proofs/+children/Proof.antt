@@ -8,13 +8,12 @@ use borrow.Author.Needs.{needs}
 use borrow.Fn.Kinds.{In}
 use borrow.Fn.PlainCycle.{Measures, is, falls, and}
 use borrow.Rule.Slice.PartMut.{same-len-mid}
-use Rattle.slots.proofs.SideBySide.{Splitting, level, rounds-asked, bits-some, ended-fits, splitting, last-asks, last-moves, upper-asks, upper-fits, lower-asks, both-fit, both-move}
+use Rattle.slots.proofs.SideBySide.{Splitting, bits-some, ended-fits, splitting, last-asks, last-moves, upper-asks, upper-fits, lower-asks, both-fit, both-move}
 use Rattle.slots.proofs.children.Reads as children
 use Rattle.slots.proofs.children.Kinds as children-kinds
 use Rattle.slots.proofs.+children.Lts-children as lts
 use Rattle.pebbling.proofs.powers.bits.Reads as bits
 use Rattle.pebbling.proofs.powers.power.Reads as power
-use Rattle.pebbling.proofs.rounds_left.Reads as rounds-left
 use Rattle.slots.proofs.prepare.Reads as prepare
 use Rattle.slots.proofs.put_out.Reads as put-out
 use Rattle.slots.proofs.together.Reads as together
@@ -33,8 +32,6 @@ module _ (t : ℕ) where
 
   abbrev claims : lts.Claims
   claims = (
-    rounds-left.Asked,
-    rounds-left.Learnt,
     bits.Asked,
     bits.Learnt,
     power.Asked,
@@ -51,46 +48,38 @@ module _ (t : ℕ) where
 
   -- what the code has worked out before its test
   ended : (c : lts.After-power2 claims at children.Post)
-      → (2 * c .before .power .result ≤ c .power2 .result) × (c .power2 .result - 2 * c .before .power .result ≤ c .before .before .before .before .before .before .args .round .0)
+      → (2 * c .before .power .result ≤ c .power2 .result) × (c .power2 .result - 2 * c .before .power .result ≤ c .before .before .before .before .before .args .round .0)
   ended c =
-      let l = c .before .before .before in
-      let s = l .before .before .before in
-      ended-fits (s .pre .1 .0) (s .pre .1 .1) (l .rounds-left .ensures) (c .before .before .bits .ensures) (c .before .power .ensures) (c .power2 .ensures)
+      let s = c .before .before .before .before .before in
+      ended-fits (s .pre .1 .0) (s .pre .1 .1) (c .before .before .bits .ensures) (c .before .power .ensures) (c .power2 .ensures)
 
   split : (c : lts.After-power2 claims at children.Post)
-      → let s = c .before .before .before .before .before .before in
-      Splitting (s .args .chain) (s .args .schedule) (s .args .k) (s .args .round .0) (c .before .before .bits .result - 1) (c .before .power .result)
+      → let s = c .before .before .before .before .before in
+      Splitting (s .args .chain) (s .args .schedule) (s .args .k) (s .args .round .0) (s .args .left .0) (c .before .before .bits .result - 1) (c .before .power .result)
       (s .args .round .0 - (c .power2 .result - 2 * c .before .power .result)) (s .args .old .now) (s .args .new .now)
   split c =
-      let l = c .before .before .before in
-      let s = l .before .before .before in
-      splitting (s .pre .1 .0) (s .pre .1 .1) (l .rounds-left .ensures) (c .before .before .bits .ensures) (c .before .power .ensures) (c .power2 .ensures)
+      let s = c .before .before .before .before .before in
+      splitting (s .pre .1 .0) (s .pre .1 .1) (c .before .before .bits .ensures) (c .before .power .ensures) (c .power2 .ensures)
 
   -- the upper half's values end inside the slots
   ends : (d : lts.After-children claims at children.Post)
-      → let s = d .before .before .before .before .before .before .before .before .before in
-      (d .children .result .read ≤ length (s .args .old .now)) × (d .children .result .written ≤ length (d .children .last .1 .1 .1 .1 .1 .0))
+      → let s = d .before .before .before .before .before .before .before .before in
+      (d .children .result .read ≤ length (s .args .old .now)) × (d .children .result .written ≤ length (d .children .last .1 .1 .1 .1 .1 .1 .0))
   ends d =
       let e = d .before .before in
-      upper-fits (split (e .before)) (e .if1 .left) (d .children .ensures) (d .children .kept .1 .1 .1 .1 .1 .0)
-
-  sub-rounds-left : lts.Need-sub-rounds-left claims at children.Post
-  sub-rounds-left c = let s = c .before .before in omega (arith, level (s .pre .1 .0) (s .pre .1 .1))
-
-  rounds-left-requires : lts.Need-rounds-left-requires claims at children.Post
-  rounds-left-requires c κs = let s = c .before .before in rounds-asked (s .pre .1 .0) (s .pre .1 .1)
+      upper-fits (split (e .before)) (e .if1 .left) (d .children .ensures) (d .children .kept .1 .1 .1 .1 .1 .1 .0)
 
   bits-requires : lts.Need-bits-requires claims at children.Post
   bits-requires c κs = search needs
 
   sub-j : lts.Need-sub-j claims at children.Post
-  sub-j c = let l = c .before in let s = l .before .before .before in bits-some (s .pre .1 .0) (s .pre .1 .1) (l .rounds-left .ensures) (c .bits .ensures) .0
+  sub-j c = let s = c .before .before .before in bits-some (s .pre .1 .0) (s .pre .1 .1) (c .bits .ensures) .0
 
   power-requires : lts.Need-power-requires claims at children.Post
-  power-requires c κs = let l = c .before in let s = l .before .before .before in bits-some (s .pre .1 .0) (s .pre .1 .1) (l .rounds-left .ensures) (c .bits .ensures) .1
+  power-requires c κs = let s = c .before .before .before in bits-some (s .pre .1 .0) (s .pre .1 .1) (c .bits .ensures) .1
 
   power-requires-2 : lts.Need-power-requires-2 claims at children.Post
-  power-requires-2 c κs = let s = c .before .before .before .before .before in omega (arith, s .pre .1 .0 .small)
+  power-requires-2 c κs = let s = c .before .before .before .before in omega (arith, s .pre .1 .0 .small)
 
   mul-ended : lts.Need-mul-ended claims at children.Post
   mul-ended c = omega (arith, c .before .power .ensures .small)
@@ -115,11 +104,14 @@ module _ (t : ℕ) where
       let e = o .before .before in
       last-moves (split (e .before)) (e .if1 .taken) (o .put-out .ensures)
 
+  sub-rest : lts.Need-sub-rest claims at children.Post
+  sub-rest c = split (c .before) .least
+
   children-requires : lts.Need-children-requires claims at children.Post
   children-requires c κs =
       let e = c .before in
       let q = e .before in
-      let s = q .before .before .before .before .before .before in
+      let s = q .before .before .before .before .before in
       (omega (arith, split q .under, s .pre .0), upper-asks (split q) (e .if1 .left))
 
   sub-prepare : lts.Need-sub-prepare claims at children.Post
@@ -144,15 +136,15 @@ module _ (t : ℕ) where
   prepare-requires c κs =
       let d = c .before .before .before .before in
       let e = d .before .before in
-      lower-asks (split (e .before)) (e .if1 .left) (d .children .ensures) (d .children .kept .1 .1 .1 .1 .1 .0)
+      lower-asks (split (e .before)) (e .if1 .left) (d .children .ensures) (d .children .kept .1 .1 .1 .1 .1 .1 .0)
 
   together-requires : lts.Need-together-requires claims at children.Post
   together-requires c κs =
       let d = c .before .before .before .before .before .before .before in
       let e = d .before .before in
       let q = e .before in
-      let s = q .before .before .before .before .before .before in
-      let f = both-fit (split q) (e .if1 .left) (d .children .ensures) (d .children .kept .1 .1 .1 .1 .1 .0) (c .before .before .prepare .ensures) in
+      let s = q .before .before .before .before .before in
+      let f = both-fit (split q) (e .if1 .left) (d .children .ensures) (d .children .kept .1 .1 .1 .1 .1 .1 .0) (c .before .before .prepare .ensures) in
       record {
         reads = omega (arith, f .0, s .good);
         writes = omega (arith, f .1, s .good);
@@ -162,23 +154,21 @@ module _ (t : ℕ) where
   same-length-2 : lts.Need-same-length-2 claims at children.Post
   same-length-2 c =
       let d = c .before .before .before .before .before .before .before .before in
-      let mid = d .children .last .1 .1 .1 .1 .1 .0 in
+      let mid = d .children .last .1 .1 .1 .1 .1 .1 .0 in
       let o = c .before .before .before in
       same-len-mid (d .children .result .written) (length mid - d .children .result .written) mid (o .prepare .last .1 .1 .1 .1 .1 .0) (o .prepare .kept .1 .1 .1 .1 .1 .0)
-      ∙ d .children .kept .1 .1 .1 .1 .1 .0
+      ∙ d .children .kept .1 .1 .1 .1 .1 .1 .0
 
   returns-2 : lts.Need-returns-2 claims at children.Post
   returns-2 c =
       let d = c .before .before .before .before .before .before .before .before in
       let e = d .before .before in
-      both-move (split (e .before)) (e .if1 .left) (d .children .ensures) (d .children .kept .1 .1 .1 .1 .1 .0) (c .before .before .before .prepare .ensures) (c .together .ensures)
+      both-move (split (e .before)) (e .if1 .left) (d .children .ensures) (d .children .kept .1 .1 .1 .1 .1 .1 .0) (c .before .before .before .prepare .ensures) (c .together .ensures)
 
 pub +children-spec : {M : Type 1} → statement M
 +children-spec =
     close μ-children λ t.
     lts.spec (claims t) (at t) children.Post
-    (sub-rounds-left t)
-    (rounds-left-requires t)
     (bits-requires t)
     (sub-j t)
     (power-requires t)
@@ -189,6 +179,7 @@ pub +children-spec : {M : Type 1} → statement M
     (put-out-requires t)
     (same-length t)
     (returns t)
+    (sub-rest t)
     (children-requires t)
     (sub-prepare t)
     (part-prepare-start t)

@@ -37,12 +37,16 @@ returns-2 c =
     let s = q .before .before .before in
     out-moves (s .pre) (e .if2 .taken ∙ q .power .ensures .is) (o .put-out .ensures)
 
+rounds-left-requires : tie.Need-rounds-left-requires
+rounds-left-requires c κs = let s = c .before .before .before .before .before in (s .pre .small, omega (arith, s .pre .before))
+
 children-requires : tie.Need-children-requires
 children-requires c κs =
-    let e = c .before in
+    let l = c .before in
+    let e = l .before in
     let q = e .before .before in
     let s = q .before .before .before in
-    late-asks (s .pre) (q .power .ensures) (omega (arith, e .before .if1 .left, e .if2 .left))
+    late-asks (s .pre) (q .power .ensures) (omega (arith, e .before .if1 .left, e .if2 .left)) (l .rounds-left .ensures)
 
 same-length-3 : tie.Need-same-length-3
 same-length-3 c = search needs
@@ -50,7 +54,7 @@ same-length-3 c = search needs
 returns-3 : tie.Need-returns-3
 returns-3 c =
     let d = c .before .before in
-    let e = d .before .before in
+    let e = d .before .before .before in
     let q = e .before .before in
     let s = q .before .before .before in
     late-moves (s .pre) (q .power .ensures) (omega (arith, e .before .if1 .left, e .if2 .left)) (d .children .ensures)
@@ -66,6 +70,7 @@ advance-spec =
     put-out-requires
     same-length-2
     returns-2
+    rounds-left-requires
     children-requires
     same-length-3
     returns-3)

@@ -7,10 +7,10 @@ use Rattle.ticks.proofs.run_rounds.Statement.{statement}
 use Rattle.ticks.proofs.run_rounds.Tie as tie
 
 abbrev Inv-loop : tie.InvT-loop
-Inv-loop function record₀ out₀ total₀ round₀ «record» out total round = (round ≤ 32) × (length «record» ≡ length record₀)
+Inv-loop function record₀ out₀ total₀ rounds₀ «record» out total rounds = (rounds ≤ 32) × (length «record» ≡ length record₀)
 
 abbrev μ-loop : tie.MeasureT-loop
-μ-loop function record₀ out₀ total₀ round₀ «record» out total round = 32 - round
+μ-loop function record₀ out₀ total₀ rounds₀ «record» out total rounds = 32 - rounds
 
 loop-holds : tie.Need-loop-holds Inv-loop μ-loop
 loop-holds c = search needs
@@ -21,8 +21,8 @@ run-round-requires c κs = search needs
 wrapping-add-u32-requires : tie.Need-wrapping-add-u32-requires Inv-loop μ-loop
 wrapping-add-u32-requires c κs = search needs
 
-add-round : tie.Need-add-round Inv-loop μ-loop
-add-round c = search needs
+add-rounds : tie.Need-add-rounds Inv-loop μ-loop
+add-rounds c = search needs
 
 loop-less : tie.Need-loop-less Inv-loop μ-loop
 loop-less c = search needs
@@ -45,7 +45,7 @@ run-rounds-spec =
     loop-holds
     run-round-requires
     wrapping-add-u32-requires
-    add-round
+    add-rounds
     loop-less
     loop-again
     same-length

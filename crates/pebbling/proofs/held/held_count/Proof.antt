@@ -1,15 +1,15 @@
 -- `held::held_count` meets its contract. Assumes nothing.
 use native.Mathlib.Omega.{arith}
 use borrow.Author.Needs.{needs}
-use Rattle.card.proofs.HeldLaws.{held-asks, held-children, held-itself}
-use Rattle.card.proofs.held.held_count.Statement.{statement}
-use Rattle.card.proofs.held.held_count.Tie as tie
+use Rattle.pebbling.proofs.HeldLaws.{held-asks, held-children, held-itself}
+use Rattle.pebbling.proofs.held.held_count.Statement.{statement}
+use Rattle.pebbling.proofs.held.held_count.Tie as tie
 
 power-requires : tie.Need-power-requires
 power-requires c κs = search needs
 
-sub-held-count-aside : tie.Need-sub-held-count-aside
-sub-held-count-aside c = search needs
+sub-n : tie.Need-sub-n
+sub-n c = search needs
 
 held-count-aside-requires : tie.Need-held-count-aside-requires
 held-count-aside-requires c κs =
@@ -41,7 +41,7 @@ held-count-spec =
     tie.close
     (tie.spec
     power-requires
-    sub-held-count-aside
+    sub-n
     held-count-aside-requires
     returns
     hashes-done-requires

@@ -6,17 +6,16 @@ use Prim.Native.Nat.{ℕ, zero, suc, _+_, _-_, _*_, _^_, _≤_, _<_, max}
 use native.Mathlib.Omega.{arith}
 use lib.Dec.{eqb}
 use lib.ListN.{length, length-append}
 use Rattle.pebbling.specs.Demands.{never-more-than-slots}
-use Rattle.pebbling.specs.Promises.{Power, Done, Holds}
+use Rattle.pebbling.specs.Promises.{Power, Done, Holds, Aside}
 use Rattle.pebbling.specs.Recursion.{schedule, done, held, positions, slots}
 use Rattle.pebbling.specs.SideBySide.{positions-itself, positions-children, sidePositions, sidePositions-both, sidePositions-last, sidePositions-late, sideHeldCount, side-length}
-use Rattle.card.specs.Steps.{Aside}
 
-slots-small : (s k : ℕ) → k ≤ 20 → slots s k ≤ 41
+pub slots-small : (s k : ℕ) → k ≤ 20 → slots s k ≤ 38
 unfolding slots
 slots-small s k h = go (eqb s 1)
   where
-    go : (b : Bool) → cond b (max (k + 1) (2 * k - 2)) (k + 1) ≤ 41
+    go : (b : Bool) → cond b (max (k + 1) (2 * k - 2)) (k + 1) ≤ 38
     go true = omega arith
     go false = omega arith
 

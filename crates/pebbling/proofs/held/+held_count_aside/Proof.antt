@@ -5,15 +5,15 @@ use Prim.Native.Nat.{ℕ, suc, _-_, _<_}
 use native.Mathlib.Omega.{arith}
 use borrow.Fn.Kinds.{In}
 use borrow.Fn.PlainCycle.{Measures, is, falls, and}
-use Rattle.card.proofs.HeldLaws.{level, aside-late-asks, aside-late, aside-few, aside-last, aside-both-asks, aside-both}
-use Rattle.card.proofs.held.held_count_aside.Reads as aside
-use Rattle.card.proofs.held.held_count_aside.Kinds as aside-kinds
-use Rattle.card.proofs.held.+held_count_aside.Lts-held_count_aside as lts
+use Rattle.pebbling.proofs.HeldLaws.{level, aside-late-asks, aside-late, aside-few, aside-last, aside-both-asks, aside-both}
+use Rattle.pebbling.proofs.held.held_count_aside.Reads as aside
+use Rattle.pebbling.proofs.held.held_count_aside.Kinds as aside-kinds
+use Rattle.pebbling.proofs.held.+held_count_aside.Lts-held_count_aside as lts
 use Rattle.pebbling.proofs.hashes.hashes_done.Reads as hashes-done
 use Rattle.pebbling.proofs.hashes.held_count_after.Reads as held-count-after
 use Rattle.pebbling.proofs.powers.power.Reads as power
-use Rattle.card.proofs.held.+held_count_aside.{statement}
-use Rattle.card.proofs.held.+held_count_aside.Tie.{close}
+use Rattle.pebbling.proofs.held.+held_count_aside.{statement}
+use Rattle.pebbling.proofs.held.+held_count_aside.Tie.{close}
 
 abbrev μ-aside : Measures 0 aside-kinds.ps ℕ
 μ-aside κs a = a .1 .0
@@ -38,8 +38,8 @@ module _ (t : ℕ) where
   power-requires : lts.Need-power-requires claims at aside.Post
   power-requires c κs = omega (arith, c .pre .1 .small)
 
-  sub-held-count-aside : lts.Need-sub-held-count-aside claims at aside.Post
-  sub-held-count-aside c = omega arith
+  sub-later : lts.Need-sub-later claims at aside.Post
+  sub-later c = omega arith
 
   held-count-aside-requires : lts.Need-held-count-aside-requires claims at aside.Post
   held-count-aside-requires c κs =
@@ -97,7 +97,7 @@ pub +held-count-aside-spec : {M : Type 1} → statement M
     lts.spec (claims t) (at t) aside.Post
     (sub-j t)
     (power-requires t)
-    (sub-held-count-aside t)
+    (sub-later t)
     (held-count-aside-requires t)
     (returns t)
     (hashes-done-requires t)
