@@ -41,8 +41,7 @@ pub enum PositionsAnswer {
 // The position list: writes the positions that a card of 2^k ticks holds before `round` to the front of
 // `list`, in falling order. Refuses k over 20 (2), a schedule over 3 (3), a round that is not from 1 to
 // 2^(k+1) (5), and a list with fewer entries than positions (4), in this order, and then changes nothing.
-// Entries behind the positions stay. They are listed aside first: how many there are is known then, and a list that is too
-// short is left alone.
+// Entries behind the positions stay.
 pub fn positions(k: u32, schedule: u32, round: u32, list: &mut [u32]) -> PositionsAnswer
     ensures { λ answer. ⌜ Positioned k schedule round (now (list .entry)) answer (now (list .exit)) ⌝ }
 {
@@ -66,6 +65,7 @@ pub fn positions(k: u32, schedule: u32, round: u32, list: &mut [u32]) -> Positio
             hashes: 0,
         };
     }
+    // Aside first: how many there are is known then, and a list that is too short stays as it is.
     let mut aside = [0u32; MOST];
     let listed = position_list::list_all(schedule, k, round, 0, 0, &mut aside);
     let entries = listed.end;
