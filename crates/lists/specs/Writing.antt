@@ -5,7 +5,7 @@ use mathlib.Core.List.{List, [], _∷_, _++_, append-nil}
 use Prim.Native.Nat.{ℕ, zero, suc, _+_, _≤_, _<_}
 use native.Mathlib.Numerals.{add-one}
 use native.Mathlib.Omega.{arith}
-use lib.ListN.{length, take, drop, set, getD, drop-of-length-le, length-append, length-drop, length-set}
+use lib.ListN.{length, take, drop, set, getD, drop-of-length-le, length-append, length-drop, length-set, List·getD-append}
 use lib.Seq.{take-all, take-append-seam}
 
 -- `front` over the front of `old`, whose other entries stay
@@ -44,6 +44,12 @@ writing-next new old now i v e h w q =
           ∙ subst (λ (n : ℕ). set (take i new ++ drop i old) i v ≡ take n new ++ drop n old) (sym (add-one i))
           (set-next i v new old (omega arith) h q);
     }
+
+-- one entry more of a copy to the front
+pub writing-copied : (from old now : List ℕ) (i : ℕ) → length from ≤ length old → i < length from → Writing (over from old) old now i
+    → Writing (over from old) old (set now i (getD from i 0)) (i + 1)
+writing-copied from old now i h l w =
+    writing-next (over from old) old now i (getD from i 0) (over-length from old h) (omega arith) w (sym (List·getD-append from (drop (length from) old) 0 i l))
 
 -- all is written
 pub writing-all : (new old now : List ℕ) (i : ℕ) → length new ≡ length old → length old ≤ i → Writing new old now i → now ≡ new

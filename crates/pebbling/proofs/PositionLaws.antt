@@ -1,13 +1,13 @@
 -- What each way out of the position list comes to: the tests on the way there pick the case of the definition. Assumes nothing.
-use mathlib.Core.Path.{_≡_, refl, sym, ap}
+use mathlib.Core.Path.{_≡_, refl, sym, ap, _∙_}
 use mathlib.Core.List.{List, [], _∷_}
 use Prim.Native.Nat.{ℕ, suc, _+_, _^_, _≤_, _<_}
 use native.Mathlib.Omega.{arith}
 use borrow.Author.Tests.{lt-ltb, le-ltb, eq-eqb, ne-eqb}
-use lib.ListN.{length}
+use lib.ListN.{length, take}
 use lib.Pow.{pow-mono}
 use Rattle.lists.specs.Writing.{over}
-use Rattle.lists.specs.Written.{Written, written-front}
+use Rattle.lists.specs.Written.{Written, written-taken}
 use Rattle.refusals.specs.Numbers.{saidOf, number-not-0}
 use Rattle.refusals.specs.declared.Refusal.{Refusal}
 use Rattle.refusals.specs.declared.Refusal.the-variants.{TooManyTicks, UnknownSchedule, WrongLength, BadRecord}
@@ -89,7 +89,7 @@ module _ (k s r : ℕ) (list : List ℕ) where
               omega (arith, enough-slots s s≤3 k r 0 (omega (arith, round-asked)), slots-small s k k≤20),
             )
 
-            module _ (n w : ℕ) (aside aside′ : List ℕ) (first : Written (positions (schedule s) k r 0) 0 aside n aside′ × (w ≡ work (schedule s) k r)) where
+            module _ (n w : ℕ) (aside aside′ : List ℕ) (sized : length aside ≡ 38) (first : Written (positions (schedule s) k r 0) 0 aside n aside′ × (w ≡ work (schedule s) k r)) where
               count : n ≡ length (positions (schedule s) k r 0)
               count = omega (arith, first .0 .ends)
 
@@ -100,9 +100,12 @@ module _ (k s r : ℕ) (list : List ℕ) where
               refused-length h = by-length n (sym count) h
 
               module _ (room : n ≤ length list) where
-                pub list-asked : (0 + 2 ^ k ≤ 1048576) × (0 + length (positions (schedule s) k r 0) ≤ length list)
-                list-asked = (aside-asked .0, omega (arith, count))
+                -- what stands aside are the positions, and they are copied
+                there : take n aside′ ≡ positions (schedule s) k r 0
+                there = written-taken (positions (schedule s) k r 0) aside aside′ n (omega (arith, aside-asked .1)) (first .0)
 
-                pub listed-all : (next : ℕ) (list′ : List ℕ) → Written (positions (schedule s) k r 0) 0 list next list′ → Positioned k s r list (Listed n w) list′
-                listed-all next list′ x =
-                    listed n w list′ count (first .1) room (written-front (positions (schedule s) k r 0) list list′ next (omega (arith, count)) x)
+                pub copy-asked : length (take n aside′) ≤ length list
+                copy-asked = omega (arith, ap length there, count)
+
+                pub listed-all : (list′ : List ℕ) → list′ ≡ over (take n aside′) list → Positioned k s r list (Listed n w) list′
+                listed-all list′ e = listed n w list′ count (first .1) room (e ∙ rw there refl)

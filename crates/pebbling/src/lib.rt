@@ -72,7 +72,7 @@ pub fn positions(k: u32, schedule: u32, round: u32, list: &mut [u32]) -> Positio
     if list.len() < entries {
         return PositionsAnswer::Refused(Refusal::WrongLength);
     }
-    position_list::list_all(schedule, k, round, 0, 0, list);
+    position_list::copy(&aside[..entries], list);
     let count = entries as u32;
     PositionsAnswer::Listed {
         count,

@@ -3,6 +3,7 @@
 ghost use mathlib.Core.Path.{_≡_};
 ghost use Prim.Native.Nat.{suc, _+_, _^_, _≤_, _<_};
 ghost use lib.ListN.{length};
+ghost use Rattle.lists.specs.Writing.{over};
 ghost use Rattle.lists.specs.Written.{Written};
 ghost use Rattle.pebbling.specs.Recursion.{held, positions, work};
 ghost use Rattle.pebbling.specs.Recursion.{schedule as hashesOf};
@@ -16,6 +17,16 @@ use super::powers::power;
 pub struct Listing {
     pub end: usize,
     pub hashes: u32,
+}
+
+// Writes positions over the front of a list.
+pub fn copy(from: &[u32], to: &mut [u32])
+    requires { ⌜ length (now from) ≤ length (now to) ⌝ }
+    ensures { λ _. ⌜ now (to .exit) ≡ over (now (from .entry)) (now (to .entry)) ⌝ }
+{
+    for i in 0..from.len() {
+        to[i] = from[i];
+    }
 }
 
 // The hashes of P_k itself in its round: round 2^k has none.

@@ -4,20 +4,12 @@ use mathlib.Core.List.{List, [], _∷_}
 use Prim.Native.Nat.{ℕ, _+_, _*_, _≤_, _<_}
 use native.Mathlib.Numerals.{add-one}
 use native.Mathlib.Omega.{arith}
-use lib.ListN.{length, drop, set, getD, List·getD-append}
-use Rattle.lists.specs.Writing.{over, over-length, Writing, writing-next}
+use lib.ListN.{length, getD}
 use Rattle.oneway.specs.declared.Chain.{Chain}
 use Rattle.oneway.specs.Step.{width, step}
 use Rattle.oneway.specs.Laws.{step-length}
 use Rattle.pebbling.specs.Recursion.{chain}
 use Rattle.records.specs.Numbers.{number}
-
--- ---- copy
-
-pub copy-next : (from old now : List ℕ) (i : ℕ) → length from ≤ length old → i < length from → Writing (over from old) old now i
-    → Writing (over from old) old (set now i (getD from i 0)) (i + 1)
-copy-next from old now i h l w =
-    writing-next (over from old) old now i (getD from i 0) (over-length from old h) (omega arith) w (sym (List·getD-append from (drop (length from) old) 0 i l))
 
 -- ---- word
 

@@ -1,8 +1,10 @@
 -- `positions` meets its contract. Each way out is a case of the definition, which the tests on the way there pick (PositionLaws); how many
 -- there are, the list and the hashes are what `position_list::list_all` promises, aside and then in the list. Assumes nothing.
+use mathlib.Core.Path.{refl, sym}
 use native.Mathlib.Omega.{arith}
 use borrow.Author.Needs.{needs}
-use Rattle.pebbling.proofs.PositionLaws.{refused-k, refused-schedule, refused-zero, refused-late, listed-none, round-asked, aside-asked, few, refused-length, list-asked, listed-all}
+use lib.Seq.{length-take-le}
+use Rattle.pebbling.proofs.PositionLaws.{refused-k, refused-schedule, refused-zero, refused-late, listed-none, round-asked, aside-asked, few, refused-length, copy-asked, listed-all}
 use Rattle.pebbling.proofs.positions.Statement.{statement}
 use Rattle.pebbling.proofs.positions.Tie as tie
 
@@ -61,11 +63,33 @@ returns-6 c =
     let p = l .before .before in
     let z = p .before in
     let n = z .before .before in
-    refused-length _ _ _ _ (n .before .if1 .left) (n .if2 .left) (z .if3 .left) _ (p .power .ensures) (l .if4 .left) (e .if5 .left) _ _ _ _ (a .list-all .ensures) (c .if6 .taken)
+    refused-length _ _ _ _ (n .before .if1 .left) (n .if2 .left) (z .if3 .left) _ (p .power .ensures) (l .if4 .left) (e .if5 .left) _ _ _ _ refl (a .list-all .ensures) (c .if6 .taken)
 
-list-all-requires-2 : tie.Need-list-all-requires-2
-list-all-requires-2 c κs =
-    let f = c .before in
+array-share-prefix-aside : tie.Need-array-share-prefix-aside
+array-share-prefix-aside c =
+    let a = c .before .before in
+    let e = a .before .before in
+    let l = e .before .before in
+    let p = l .before .before in
+    let z = p .before in
+    let n = z .before .before in
+    let list = n .before .before .before .args .list .now in
+    omega (arith, few _ _ _ list (n .before .if1 .left) (n .if2 .left) (z .if3 .left) _ (p .power .ensures) (l .if4 .left) (e .if5 .left) _ _ _ _ refl (a .list-all .ensures), a .list-all .kept .1 .1 .1 .1 .1 .0)
+
+slice-aggregate-copy : tie.Need-slice-aggregate-copy
+slice-aggregate-copy c =
+    let a = c .before .before .before in
+    let e = a .before .before in
+    let l = e .before .before in
+    let p = l .before .before in
+    let z = p .before in
+    let n = z .before .before in
+    let list = n .before .before .before .args .list .now in
+    sym (length-take-le _ _ (omega (arith, few _ _ _ list (n .before .if1 .left) (n .if2 .left) (z .if3 .left) _ (p .power .ensures) (l .if4 .left) (e .if5 .left) _ _ _ _ refl (a .list-all .ensures), a .list-all .kept .1 .1 .1 .1 .1 .0)))
+
+copy-requires : tie.Need-copy-requires
+copy-requires c κs =
+    let f = c .before .before in
     let a = f .before .before in
     let e = a .before .before in
     let l = e .before .before in
@@ -73,13 +97,11 @@ list-all-requires-2 c κs =
     let z = p .before in
     let n = z .before .before in
     let list = n .before .before .before .args .list .now in
-    let x = round-asked _ _ _ list (n .before .if1 .left) (n .if2 .left) (z .if3 .left) _ (p .power .ensures) (l .if4 .left) (e .if5 .left) in
-    let y = list-asked _ _ _ list (n .before .if1 .left) (n .if2 .left) (z .if3 .left) _ (p .power .ensures) (l .if4 .left) (e .if5 .left) _ _ _ _ (a .list-all .ensures) (f .if6 .left) in
-    (n .if2 .left, n .before .if1 .left, x .0, x .1, y .0, y .1)
+    copy-asked _ _ _ list (n .before .if1 .left) (n .if2 .left) (z .if3 .left) _ (p .power .ensures) (l .if4 .left) (e .if5 .left) _ _ _ _ refl (a .list-all .ensures) (f .if6 .left)
 
 cast-count : tie.Need-cast-count
 cast-count c =
-    let f = c .before .before .before .before in
+    let f = c .before .before .before .before .before in
     let a = f .before .before in
     let e = a .before .before in
     let l = e .before .before in
@@ -87,7 +109,7 @@ cast-count c =
     let z = p .before in
     let n = z .before .before in
     let list = n .before .before .before .args .list .now in
-    omega (arith, few _ _ _ list (n .before .if1 .left) (n .if2 .left) (z .if3 .left) _ (p .power .ensures) (l .if4 .left) (e .if5 .left) _ _ _ _ (a .list-all .ensures))
+    omega (arith, few _ _ _ list (n .before .if1 .left) (n .if2 .left) (z .if3 .left) _ (p .power .ensures) (l .if4 .left) (e .if5 .left) _ _ _ _ refl (a .list-all .ensures))
 
 same-length : tie.Need-same-length
 same-length c = search needs
@@ -95,15 +117,15 @@ same-length c = search needs
 returns-7 : tie.Need-returns-7
 returns-7 c =
     let b = c .before .before in
-    let f = b .before .before in
+    let f = b .before .before .before in
     let a = f .before .before in
     let e = a .before .before in
     let l = e .before .before in
     let p = l .before .before in
     let z = p .before in
     let n = z .before .before in
-    listed-all _ _ _ (n .before .before .before .args .list .now) (n .before .if1 .left) (n .if2 .left) (z .if3 .left) _ (p .power .ensures) (l .if4 .left) (e .if5 .left) _ _ _ _
-    (a .list-all .ensures) (f .if6 .left) _ _ (b .list-all2 .ensures .0)
+    let list = n .before .before .before .args .list .now in
+    listed-all _ _ _ list (n .before .if1 .left) (n .if2 .left) (z .if3 .left) _ (p .power .ensures) (l .if4 .left) (e .if5 .left) _ _ _ _ refl (a .list-all .ensures) (f .if6 .left) _ (b .copy .ensures)
 
 pub positions-spec : {M : Type 1} → statement M
 positions-spec =
@@ -119,7 +141,9 @@ positions-spec =
     slice-aggregate-list-all
     list-all-requires
     returns-6
-    list-all-requires-2
+    array-share-prefix-aside
+    slice-aggregate-copy
+    copy-requires
     cast-count
     same-length
     returns-7)

@@ -4,8 +4,7 @@ use mathlib.Core.Path.{_≡_}
 use Prim.Native.Nat.{_≤_, _-_}
 use native.Mathlib.Omega.{arith}
 use lib.ListN.{length}
-use Rattle.lists.specs.Writing.{over, Writing, writing-none, writing-front}
-use Rattle.records.proofs.Laws.{copy-next}
+use Rattle.lists.specs.Writing.{over, Writing, writing-none, writing-copied, writing-front}
 use Rattle.records.proofs.copy.Statement.{statement}
 use Rattle.records.proofs.copy.Tie as tie
 
@@ -33,7 +32,7 @@ loop-less c = search needs
 loop-again : tie.Need-loop-again Inv-loop μ-loop
 loop-again c =
     let b = c .before .before in
-    (search needs, copy-next (b .before .args .from .now) (b .before .args .to .now) (b .loop .to) (b .loop .i) (b .before .pre) (search needs) (b .loop .inv .1))
+    (search needs, writing-copied (b .before .args .from .now) (b .before .args .to .now) (b .loop .to) (b .loop .i) (b .before .pre) (search needs) (b .loop .inv .1))
 
 same-length : tie.Need-same-length Inv-loop μ-loop
 same-length c = search needs
