@@ -78,11 +78,11 @@ fn curve(k: u32, n: u32) -> u32
 }
 
 // The hashes that an optimal P_k has still to do, by its rounds left: they are done before its round 2^k, to which it
-// has c rounds, 2^k less; `whole` is 2^k. With z for what c lacks to the power of two above it, the round itself has half of k - len z hashes,
-// or half of k + 1 where c is a power of two, rounded up where k + c is odd. From one power of two to the next c grows
-// and z falls, so twice what is left is a constant less the curve at z. The constant is the curve for k + 2 at the power
-// above, less 2: that gives 0 at c = 0, and a step of k + 1 at each power. All the rounding comes to that of the sum,
-// since an odd sum is only ever followed by an odd step.
+// has c rounds, 2^k less; `whole` is 2^k. With z for what c lacks to the power of two above it, the round itself has
+// half of k - len z hashes, or half of k + 1 where c is a power of two, rounded up where k + c is odd. From one power of
+// two to the next c grows and z falls, so twice what is left is a constant less the curve at z. The constant is the
+// curve for k + 2 at the power above, less 2: that gives 0 at c = 0, and a step of k + 1 at each power. All the rounding
+// comes to that of the sum, since an odd sum is only ever followed by an odd step.
 //
 // For k = 4 rounds 8 to 15 have 2, 2, 1, 1, 2, 2, 2 and 3 hashes. Before round 8, c = 8, above = 16 and z = 8: the
 // curves are 48 and 16, and half of 0 + (48 - 16 - 2) is 15. Before round 9, c = 7, above = 8 and z = 1: they are 32
