@@ -5,5 +5,6 @@ cd "$(dirname "$0")/.."
 mkdir -p target/tests
 cc -std=c99 -Wall -Wextra -Wpedantic -Werror -O2 -Iinclude tests/header.c target/staticlib/libperchmellow.a -o target/tests/header
 target/tests/header
-cc -std=gnu99 -Wall -Wextra -Werror -O2 -Iinclude tests/stack.c target/staticlib/libperchmellow.a -o target/tests/stack
+# bound at once: binding memcpy at its first call would take stack of its own
+cc -std=gnu99 -Wall -Wextra -Werror -O2 -Wl,-z,now -Iinclude tests/stack.c target/staticlib/libperchmellow.a -o target/tests/stack
 target/tests/stack
