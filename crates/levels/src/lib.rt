@@ -1,8 +1,7 @@
 // Cards of any number of ticks: how many there may be, the level of the smallest card that has so many, and the round with which
 // it begins. Ticks are a count of their own, neither a round number nor rounds left.
 ghost use mathlib.Core.Path.{_≡_};
-ghost use Prim.Native.Nat.{suc, _-_, _^_, _≤_};
-ghost use lib.Dec.{T};
+ghost use Prim.Native.Nat.{suc, _-_, _^_, _≤_, _<_};
 ghost use Rattle.levels.specs.Levels.{allowed as isAllowed, level as levelOf};
 use pebbling::RoundNumber;
 use pebbling::powers::bits;
@@ -23,7 +22,7 @@ pub fn allowed(ticks: u32) -> bool
 
 // The least k with 2^k at least the ticks: so many binary digits has the number before them.
 pub fn level(ticks: u32) -> u32
-    requires { ⌜ T (isAllowed ticks) ⌝ }
+    requires { ⌜ (0 < ticks) × (ticks ≤ 1048576) ⌝ }
     ensures { λ k. ⌜ (k ≡ levelOf ticks) × (k ≤ 20) ⌝ }
 {
     bits(ticks - 1)
