@@ -1,3 +1,4 @@
 pub mod ReadLaws
 pub mod StartLaws
 pub mod TurnLaws
+pub mod AnchorLaws

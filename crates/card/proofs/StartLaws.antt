@@ -1,33 +1,45 @@
--- What the code of start and anchor comes to, over plain lists and numbers: one law for each answer, in the order of the source.
--- Assumes nothing.
+-- What the code of start, rebuild and the start of n ticks comes to, over plain lists and numbers: one law for each answer, in the order
+-- of the source. Assumes nothing.
 use mathlib.Core.Path.{_≡_, refl, sym, ap, _∙_}
-use mathlib.Core.Bool.{Bool, true, false, true≢false}
-use mathlib.Core.List.{List, [], _∷_, _++_, append-nil}
-use Prim.Native.Nat.{ℕ, _+_, _-_, _^_, _≤_, _<_}
+use mathlib.Core.Bool.{Bool, true, false, cond, _||_, not, true≢false}
+use mathlib.Core.Logic.{_⊎_, inl, inr}
+use mathlib.Core.List.{List, [], _∷_, _++_, map}
+use Prim.Native.Nat.{ℕ, suc, _+_, _-_, _*_, _^_, _≤_, _<_}
+use native.Mathlib.Nat.{eq-zero-or-pos, mul-le-mul-left}
 use native.Mathlib.Omega.{arith}
 use borrow.Author.Tests.{lt-ltb, le-ltb, eq-eqb, ne-eqb}
-use lib.Dec.{T}
-use lib.ListN.{length, take, drop, replicate, length-replicate, replicate-append-replicate}
+use lib.Dec.{T, eqb, ltb}
+use lib.ListN.{length, take, drop, replicate, length-map, length-replicate, replicate-append-replicate}
+use lib.Pow.{pow-pos}
 use lib.Seq.{take-add, take-at, drop-at, length-take-le}
 use Rattle.records.specs.Chains.{chain-length}
+use Rattle.levels.specs.Levels.{allowed, level, firstRound, allowed-range, level-small, first-round-pays}
 use Rattle.lists.specs.Values.{joined}
+use Rattle.lists.specs.Wide.{wide-map, joined-wide}
 use Rattle.lists.specs.Writing.{over, over-length}
 use Rattle.oneway.specs.Laws.{known-byte}
-use Rattle.oneway.specs.Step.{known, width, step}
+use Rattle.oneway.specs.Step.{known, step}
 use Rattle.oneway.specs.declared.Chain.{Chain}
-use Rattle.pebbling.specs.Promises.{Power}
-use Rattle.pebbling.specs.Recursion.{chain}
+use Rattle.pebbling.specs.Demands.{positions-fall-strictly, never-more-than-slots}
+use Rattle.pebbling.specs.Len.{lt-or-le}
+use Rattle.pebbling.specs.PositionList.{positionsMustSay, positionsList, Positioned}
+use Rattle.pebbling.specs.Recursion.{chain, positions, schedule as hashesOf, slots as slotsOf, work}
+use Rattle.pebbling.specs.Slots.{slots-small}
+use Rattle.pebbling.specs.declared.PositionsAnswer.the-variants.{Listed, Refused as NoList}
+use Rattle.refill.specs.Refill.{Fillable, Refilled}
+use Rattle.refusals.specs.Numbers.{saidOf, said-tells, not-refused}
 use Rattle.refusals.specs.declared.Refusal.{Refusal}
-use Rattle.refusals.specs.declared.Refusal.the-variants.{UnknownFunction, TooManyTicks, WrongLength}
+use Rattle.refusals.specs.declared.Refusal.the-variants.{UnknownFunction, TooManyTicks, UnknownSchedule, WrongLength, BadRecord, BadTicks}
 use Rattle.card.specs.declared.Head.{Head}
 use Rattle.card.specs.declared.Inspected.{Inspected}
 use Rattle.card.specs.declared.Inspected.the-variants.{Refused, Card}
+use Rattle.card.specs.declared.Answer.{Answer}
 use Rattle.card.specs.declared.Answer.the-variants.{Done, Refused as NotDone}
-use Rattle.card.specs.Record.{widthOf, slotsSize, size, headBytes, filled, cardBytes}
-use Rattle.card.specs.Refused.{passing, numbers, roomFor, startJudged, anchorJudged}
-use Rattle.card.specs.Promises.{first, startMustSay, startCard, Started, anchorMustSay, anchorOut, Anchored}
-use Rattle.card.specs.Sound.{Startable}
-use Rattle.card.specs.Steps.{Puttable}
+use Rattle.card.specs.Record.{headAt, widthOf, slotsSize, size, headBytes, filled, cardBytes}
+use Rattle.card.specs.Refused.{passing, numbers, roomFor, startJudged, inRange, rebuildJudged, startTicksJudged}
+use Rattle.card.specs.Promises.{answerSays, judgedSays, judgedCard, startMustSay, startCard, Started, elementsHeld, rebuildMustSay, rebuildCard, Rebuilt, startTicksMustSay, startTicksCard, StartedTicks}
+use Rattle.card.specs.Sound.{Numbered, roomy, rebuild-judged}
+use Rattle.card.specs.Steps.{Puttable, elementsAt, Beginning, Layable, Begun}
 use Rattle.card.proofs.ReadLaws.{first-slot}
 
 -- ---- slots that were made as zeros
@@ -76,28 +88,38 @@ module _ (seed card : List ℕ) (head : Head) (w : ℕ) (wide : w ≡ widthOf he
     unfolding roomFor
     card-long s = rw (eq-eqb (length seed) (widthOf head) (l ∙ wide), le-ltb (length card) (size head) (omega (arith, whole))) refl
 
--- ---- judge_start
-
-module _ (head : Head) (seed card : List ℕ) (checked : Inspected) (numbered : checked ≡ numbers head) where
-  both : passing checked (roomFor seed card) ≡ startJudged head seed card
-  unfolding startJudged
-  both = rw (← numbered) refl
-
-  pub start-refused : (refusal : Refusal) → checked ≡ Refused refusal → Refused refusal ≡ startJudged head seed card
-  start-refused refusal c = rw c at both
-
-  pub start-passed : (h : Head) → checked ≡ Card h → roomFor seed card h ≡ startJudged head seed card
-  start-passed h c = rw c at both
-
 -- ---- lay
 
-module _ (head : Head) (seed card : List ℕ) (ok : Startable seed card head) (n : ℕ) (slotted : (n ≡ slotsSize head) × (n ≤ 608)) where
-  pub seed-fits : length seed ≤ n
-  seed-fits = omega (arith, ok .seeded, slotted .0, first-slot head)
+module _ (head : Head) (held seed card : List ℕ) (ok : Layable head held seed card) (n : ℕ) (slotted : (n ≡ slotsSize head) × (n ≤ 608)) where
+  pub refill-asks : Fillable (record { function = head .function }) seed held (replicate 608 0)
+  refill-asks =
+      let z : ℕ = 0 in
+      record {
+        known = known-holds (known (head .function)) (ok .beginning .numbered .known);
+        seeded = ok .seeded;
+        top = ok .beginning .top;
+        falls = ok .beginning .falls;
+        room = omega (arith, ok .beginning .few, slotted .0, slotted .1, length-replicate 608 z);
+      }
 
-  module _ (slots : List ℕ) (copied : slots ≡ over seed (replicate 608 0)) where
+  abbrev vs : List (List ℕ)
+  vs = elementsAt held seed head
+
+  -- a value for each position
+  sized : length (joined vs) ≡ widthOf head * length held
+  sized =
+      let c : Chain = record { function = head .function } in
+      joined-wide (widthOf head) vs (wide-map (widthOf head) (chain (step c) seed) (chain-length c seed (ok .seeded)) held)
+      ∙ ap (λ (m : ℕ). widthOf head * m) (length-map held (chain (step c) seed))
+
+  fits : length (joined vs) ≤ n
+  fits = omega (arith, sized, ok .beginning .few, slotted .0)
+
+  module _ (hashes : ℕ) (slots : List ℕ) (refilled : Refilled (record { function = head .function }) seed held (replicate 608 0) hashes slots) where
     made : length slots ≡ 608
-    made = let z : ℕ = 0 in ap length copied ∙ over-length seed (replicate 608 z) (omega (arith, seed-fits, slotted .1, length-replicate 608 z)) ∙ length-replicate 608 z
+    made =
+        let z : ℕ = 0 in
+        ap length (refilled .leaves) ∙ over-length (joined vs) (replicate 608 z) (omega (arith, fits, slotted .1, length-replicate 608 z)) ∙ length-replicate 608 z
 
     pub lay-within : n ≤ length slots
     lay-within = omega (arith, made, slotted .1)
@@ -106,75 +128,225 @@ module _ (head : Head) (seed card : List ℕ) (ok : Startable seed card head) (n
     unfolding size
     lay-asks =
         record {
-          function = known-byte (head .function) (ok .numbered .known);
-          schedule = omega (arith, ok .numbered .schedule);
-          k = omega (arith, ok .numbered .small);
+          function = known-byte (head .function) (ok .beginning .numbered .known);
+          schedule = omega (arith, ok .beginning .numbered .schedule);
+          k = omega (arith, ok .beginning .numbered .small);
           room = omega (arith, length-take-le n slots lay-within, ok .long, slotted .0);
         }
 
-    pub laid : (card′ : List ℕ) → card′ ≡ over (headBytes head ++ take n slots) card → card′ ≡ over (cardBytes head (seed ∷ [])) card
-    unfolding cardBytes joined
+    pub laid : (card′ : List ℕ) → card′ ≡ over (headBytes head ++ take n slots) card → card′ ≡ over (cardBytes head (elementsAt held seed head)) card
+    unfolding cardBytes
     laid card′ e =
         let z : ℕ = 0 in
-        let s : take n slots ≡ filled head (seed ∷ []) =
-        slots-filled head (seed ∷ []) seed slots n 608 (slotted .0) (append-nil seed) seed-fits (slotted .1)
-        (ap (take (length seed)) copied ∙ take-at seed (drop (length seed) (replicate 608 z)) (length seed) refl)
-        (ap (drop (length seed)) copied ∙ drop-at seed (drop (length seed) (replicate 608 z)) (length seed) refl) in
+        let front = joined vs in
+        let s : take n slots ≡ filled head vs =
+        slots-filled head vs front slots n 608 (slotted .0) refl fits (slotted .1)
+        (ap (take (length front)) (refilled .leaves) ∙ take-at front (drop (length front) (replicate 608 z)) (length front) refl)
+        (ap (drop (length front)) (refilled .leaves) ∙ drop-at front (drop (length front) (replicate 608 z)) (length front) refl) in
         e ∙ rw s refl
+
+-- ---- begin
+
+module _ (head : Head) (held seed card : List ℕ) (judged : Inspected) (e : judged ≡ roomFor seed card head) where
+  pub lay-beginning : Beginning head held → (h : Head) → judged ≡ Card h → Layable h held seed card
+  lay-beginning b h q =
+      let r = roomy head seed card h (sym e ∙ q) in
+      rw (← r .0) (record { beginning = b; seeded = r .1 .seeded; long = r .1 .long })
+
+  pub begun-refused : (refusal : Refusal) → judged ≡ Refused refusal → Begun head held seed card (NotDone refusal) card
+  begun-refused refusal q = record { says = rw (← e, q) refl; leaves = rw (← e, q) refl }
+
+  pub begun-done : (h : Head) (card′ : List ℕ) → judged ≡ Card h → card′ ≡ over (cardBytes h (elementsAt held seed h)) card
+      → Begun head held seed card Done card′
+  begun-done h card′ q l = record { says = rw (← e, q) refl; leaves = rw (← e, q) l }
 
 -- ---- start
 
-module _ (function k schedule : ℕ) (seed card : List ℕ) where
-  pub started-refused : (refusal : Refusal) → startJudged (first function k schedule) seed card ≡ Refused refusal
-      → Started function k schedule seed card (NotDone refusal) card
+module _ (function k schedule : ℕ) (seed card : List ℕ) (checked : Inspected) (e : checked ≡ numbers (headAt function k schedule 1)) where
+  judged : passing checked (roomFor seed card) ≡ startJudged (headAt function k schedule 1) seed card
+  unfolding startJudged
+  judged = rw (← e) refl
+
+  pub started-refused : (refusal : Refusal) → checked ≡ Refused refusal → Started function k schedule seed card (NotDone refusal) card
   unfolding startMustSay startCard
-  started-refused refusal e = record { says = rw e refl; leaves = rw e refl }
+  started-refused refusal q = record { says = rw (← judged, q) refl; leaves = rw (← judged, q) refl }
 
-  pub started-done : (h : Head) (card′ : List ℕ) → startJudged (first function k schedule) seed card ≡ Card h → card′ ≡ over (cardBytes h (seed ∷ [])) card
-      → Started function k schedule seed card Done card′
-  unfolding startMustSay startCard
-  started-done h card′ e l = record { says = rw e refl; leaves = rw e l }
+  pub started-begun : (h : Head) (answer : Answer) (card′ : List ℕ) → checked ≡ Card h → Begun h (0 ∷ []) seed card answer card′
+      → Started function k schedule seed card answer card′
+  unfolding startMustSay startCard chain
+  started-begun h answer card′ q b = record { says = rw (← judged, q) (b .says); leaves = rw (← judged, q) (b .leaves) }
 
--- ---- anchor
+-- the seed alone, at position 0
+pub seed-begins : (head : Head) → Numbered head → Beginning head (0 ∷ [])
+seed-begins head n =
+    record { numbered = n; top = 1; falls = (omega arith, omega arith); few = omega (arith, first-slot head) }
 
-module _ (c : Chain) (k : ℕ) (seed out : List ℕ) where
-  pub anchor-refused : (refusal : Refusal) → anchorJudged c k seed out ≡ NotDone refusal → Anchored c k seed out (NotDone refusal) out
-  unfolding anchorMustSay anchorOut
-  anchor-refused refusal e = record { says = rw e refl; writes = rw e refl }
+-- ---- rebuild
 
-  module _ (x : Bool) (e : x ≡ known (c .function)) where
-    pub anchor-1 : x ≡ false → anchorJudged c k seed out ≡ NotDone UnknownFunction
-    unfolding anchorJudged
-    anchor-1 f = rw (← e, f) refl
+module _ (function k s r : ℕ) (seed card : List ℕ) where
+  abbrev head : Head
+  head = headAt function k s r
 
-    module _ (t : x ≡ true) where
-      pub anchor-2 : 20 < k → anchorJudged c k seed out ≡ NotDone TooManyTicks
-      unfolding anchorJudged
-      anchor-2 a = rw (← e, t, lt-ltb 20 k a) refl
+  pub rebuilt-unknown : (x : Bool) → x ≡ known function → x ≡ false → Rebuilt function k s r seed card (NotDone UnknownFunction) card
+  unfolding rebuildMustSay rebuildCard rebuildJudged numbers
+  rebuilt-unknown x e f = record { says = rw (← e, f) refl; leaves = rw (← e, f) refl }
 
-      module _ (a : k ≤ 20) (w : ℕ) (wide : w ≡ width c) where
-        pub anchor-seed : (length seed ≡ w → ⊥) → anchorJudged c k seed out ≡ NotDone WrongLength
-        unfolding anchorJudged
-        anchor-seed n = rw (← e, t, le-ltb 20 k a, ne-eqb (length seed) (width c) (λ q. n (q ∙ sym wide))) refl
+  module _ (x : Bool) (e : x ≡ known function) (t : x ≡ true) (list : List ℕ) (long : length list ≡ 38) where
+    is-known : known function ≡ true
+    is-known = sym e ∙ t
 
-        module _ (l : length seed ≡ w) where
-          pub anchor-short : length out < w → anchorJudged c k seed out ≡ NotDone WrongLength
-          unfolding anchorJudged
-          anchor-short s = rw (← e, t, le-ltb 20 k a, eq-eqb (length seed) (width c) (l ∙ wide), lt-ltb (length out) (width c) (omega (arith, wide))) refl
+    refused : (refusal : Refusal) → rebuildJudged head seed card ≡ Refused refusal → Rebuilt function k s r seed card (NotDone refusal) card
+    unfolding rebuildMustSay rebuildCard
+    refused refusal q = record { says = rw q refl; leaves = rw q refl }
 
-          module _ (s : w ≤ length out) where
-            all : anchorJudged c k seed out ≡ Done
-            unfolding anchorJudged
-            all = rw (← e, t, le-ltb 20 k a, eq-eqb (length seed) (width c) (l ∙ wide), le-ltb (length out) (width c) (omega (arith, wide))) refl
+    -- the position list makes the tests of k, schedule and round: it is refused as the rebuild is, or all of them are passed
+    module _ (said : List ℕ) (says : said ≡ positionsMustSay k s r list) where
+      record Tested : Type 0 where
+        numbered : Numbered head
+        from : 0 < r
+        upto : r ≤ 2 ^ suc k
+        listed : said ≡ 0 ∷ length (positions (hashesOf s) k r 0) ∷ work (hashesOf s) k r ∷ []
 
-            module _ (mid : List ℕ) (copied : mid ≡ over seed out) where
-              pub anchor-front : take w mid ≡ seed
-              anchor-front = ap (take w) copied ∙ take-at seed (drop (length seed) out) w l
+      abbrev RefusedAlike : Type 0
+      RefusedAlike = (refusal : Refusal) × (said ≡ saidOf refusal) × (rebuildJudged head seed card ≡ Refused refusal)
 
-              pub anchor-done : (p : ℕ) (y : List ℕ) → Power k p → y ≡ chain (step c) (take w mid) p → Anchored c k seed out Done (y ++ drop w mid)
-              unfolding anchorMustSay anchorOut
-              anchor-done p y q h =
-                  let v : y ≡ chain (step c) seed (2 ^ k) = h ∙ rw (anchor-front, q .is) refl in
-                  let d : drop w mid ≡ drop w out = ap (drop w) copied ∙ drop-at seed (drop (length seed) out) w l ∙ rw l refl in
-                  let n : length (chain (step c) seed (2 ^ k)) ≡ w = chain-length c seed (l ∙ wide) (2 ^ k) ∙ sym wide in
-                  record { says = rw all refl; writes = rw (all, v, d, n) refl }
+      tested : RefusedAlike ⊎ Tested
+      unfolding positionsMustSay rebuildJudged numbers inRange
+      tested = go (lt-or-le 20 k) (lt-or-le 3 s) (eq-zero-or-pos r) (lt-or-le (2 ^ suc k) r)
+        where
+          go : (20 < k) ⊎ (k ≤ 20) → (3 < s) ⊎ (s ≤ 3) → (r ≡ 0) ⊎ (0 < r) → (2 ^ suc k < r) ⊎ (r ≤ 2 ^ suc k) → RefusedAlike ⊎ Tested
+          go (inl a) y z u = inl (TooManyTicks, says ∙ rw (lt-ltb 20 k a) refl, rw (is-known, lt-ltb 20 k a) refl)
+          go (inr a) (inl b) z u =
+              inl (UnknownSchedule, says ∙ rw (le-ltb 20 k a, lt-ltb 3 s b) refl, rw (is-known, le-ltb 20 k a, lt-ltb 3 s b) refl)
+          go (inr a) (inr b) (inl c) u =
+              inl (
+                BadRecord,
+                says ∙ rw (le-ltb 20 k a, le-ltb 3 s b, eq-eqb r 0 c) refl,
+                rw (is-known, le-ltb 20 k a, le-ltb 3 s b, eq-eqb r 0 c) refl,
+              )
+          go (inr a) (inr b) (inr c) (inl d) =
+              let p = ne-eqb r 0 (λ e. omega arith) in
+              inl (
+                BadRecord,
+                says ∙ rw (le-ltb 20 k a, le-ltb 3 s b, p, lt-ltb (2 ^ suc k) r d) refl,
+                rw (is-known, le-ltb 20 k a, le-ltb 3 s b, p, lt-ltb (2 ^ suc k) r d) refl,
+              )
+          go (inr a) (inr b) (inr c) (inr d) =
+              let n = length (positions (hashesOf s) k r 0) in
+              let few : n ≤ length list = omega (arith, never-more-than-slots s b k r d, slots-small s k a, long) in
+              inr (record {
+                numbered = record { known = is-known; small = a; schedule = b };
+                from = c;
+                upto = d;
+                listed = says ∙ rw (le-ltb 20 k a, le-ltb 3 s b, ne-eqb r 0 (λ e. omega arith), le-ltb (2 ^ suc k) r d, le-ltb (length list) n few) refl;
+              })
+
+    pub rebuilt-refused : (refusal : Refusal) (list′ : List ℕ) → Positioned k s r list (NoList refusal) list′ → Rebuilt function k s r seed card (NotDone refusal) card
+    rebuilt-refused refusal list′ l = go (tested (saidOf refusal) (l .says))
+      where
+        go : RefusedAlike (saidOf refusal) (l .says) ⊎ Tested (saidOf refusal) (l .says) → Rebuilt function k s r seed card (NotDone refusal) card
+        go (inl (other, same, q)) = refused refusal (q ∙ ap Refused (sym (said-tells refusal other same)))
+        go (inr t) = absurd (not-refused refusal _ (t .listed))
+
+    module _ (count hashes : ℕ) (list′ : List ℕ) (l : Positioned k s r list (Listed count hashes) list′) where
+      abbrev held : List ℕ
+      held = positions (hashesOf s) k r 0
+
+      passed : Tested (0 ∷ count ∷ hashes ∷ []) (l .says)
+      passed = go (tested (0 ∷ count ∷ hashes ∷ []) (l .says))
+        where
+          go : RefusedAlike (0 ∷ count ∷ hashes ∷ []) (l .says) ⊎ Tested (0 ∷ count ∷ hashes ∷ []) (l .says) → Tested (0 ∷ count ∷ hashes ∷ []) (l .says)
+          go (inl (refusal, same, q)) = absurd (not-refused refusal _ (sym same))
+          go (inr t) = t
+
+      counted : count ≡ length held
+      counted = let e = passed .listed in cc
+
+      fits-slots : length held ≤ slotsOf s k
+      fits-slots = never-more-than-slots s (passed .numbered .schedule) k r (passed .upto)
+
+      -- the positions stand at the list's front
+      left : list′ ≡ over held list
+      unfolding positionsList
+      left = l .leaves ∙ rw (← l .says) refl
+
+      there : take count list′ ≡ held
+      there = ap (take count) left ∙ take-at held (drop (length held) list) count (sym counted)
+
+      few : length held ≤ 38
+      few = omega (arith, fits-slots, slots-small s k (passed .numbered .small))
+
+      pub list-within : count ≤ length list′
+      list-within = omega (arith, counted, few, ap length left, over-length held list (omega (arith, few, long)), long)
+
+      pub rebuilt-begins : Beginning head (take count list′)
+      unfolding slotsSize
+      rebuilt-begins =
+          rw there
+          (record {
+            numbered = passed .numbered;
+            top = 2 ^ k;
+            falls = positions-fall-strictly s (passed .numbered .schedule) k r;
+            few = mul-le-mul-left (widthOf head) fits-slots;
+          })
+
+      pub rebuilt-begun : (answer : Answer) (card′ : List ℕ) → Begun head (take count list′) seed card answer card′ → Rebuilt function k s r seed card answer card′
+      unfolding rebuildMustSay rebuildCard roomFor
+      rebuilt-begun answer card′ b =
+          let j = rebuild-judged head seed card (passed .numbered) (passed .from) (passed .upto) in
+          record {
+            says = b .says ∙ sym (ap judgedSays j);
+            leaves = b .leaves ∙ rw (there, j) (same-laid (not (eqb (length seed) (widthOf head)) || ltb (length card) (size head)));
+          }
+        where
+          same-laid : (short : Bool)
+              → judgedCard (elementsAt held seed) card (cond short (Refused WrongLength) (Card head))
+              ≡ judgedCard (elementsHeld seed) card (cond short (Refused WrongLength) (Card head))
+          same-laid true = refl
+          same-laid false = refl
+
+-- ---- start of n ticks
+
+module _ (function n s : ℕ) (seed card : List ℕ) (x : Bool) (e : x ≡ known function) where
+  ticks-refused : (refusal : Refusal) → startTicksJudged function n s seed card ≡ Refused refusal → StartedTicks function n s seed card (NotDone refusal) card
+  unfolding startTicksMustSay startTicksCard
+  ticks-refused refusal q = record { says = rw q refl; leaves = rw q refl }
+
+  pub ticks-1 : x ≡ false → StartedTicks function n s seed card (NotDone UnknownFunction) card
+  unfolding startTicksJudged
+  ticks-1 f = ticks-refused UnknownFunction (rw (← e, f) refl)
+
+  module _ (t : x ≡ true) where
+    pub ticks-3 : 3 < s → StartedTicks function n s seed card (NotDone UnknownSchedule) card
+    unfolding startTicksJudged
+    ticks-3 a = ticks-refused UnknownSchedule (rw (← e, t, lt-ltb 3 s a) refl)
+
+    module _ (a : s ≤ 3) (y : Bool) (q : y ≡ allowed n) where
+      pub ticks-10 : y ≡ false → StartedTicks function n s seed card (NotDone BadTicks) card
+      unfolding startTicksJudged
+      ticks-10 f = ticks-refused BadTicks (rw (← e, t, le-ltb 3 s a, ← q, f) refl)
+
+      module _ (u : y ≡ true) where
+        pub ticks-range : (0 < n) × (n ≤ 1048576)
+        ticks-range = allowed-range n (sym q ∙ u)
+
+        pub ticks-rebuilt : (k r : ℕ) (answer : Answer) (card′ : List ℕ) → k ≡ level n → r ≡ 2 ^ suc k - n → Rebuilt function k s r seed card answer card′
+            → StartedTicks function n s seed card answer card′
+        unfolding startTicksMustSay startTicksCard rebuildMustSay rebuildCard
+        ticks-rebuilt k r answer card′ l f b =
+            record { says = b .says ∙ ap judgedSays same; leaves = b .leaves ∙ ap (judgedCard (elementsHeld seed) card) same }
+          where
+            round : r ≡ firstRound n
+            round = f ∙ unfold firstRound in rw l refl
+
+            same : rebuildJudged (headAt function k s r) seed card ≡ startTicksJudged function n s seed card
+            same =
+                let some = ticks-range .0 in
+                let few = ticks-range .1 in
+                let first = first-round-pays n some few in
+                rw (l, round)
+                (rebuild-judged (headAt function (level n) s (firstRound n)) seed card
+                (record { known = sym e ∙ t; small = level-small n few; schedule = a })
+                (omega (arith, first .0, pow-pos (level n)))
+                (omega (arith, first .1))
+                ∙ unfold startTicksJudged in rw (← e, t, le-ltb 3 s a, ← q, u) refl)

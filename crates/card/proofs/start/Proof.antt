@@ -1,51 +1,51 @@
--- `card::start` meets its contract. Assumes nothing.
+-- `card::start` meets its contract: the numbers are checked, and the seed is held at position 0. Assumes nothing.
 use mathlib.Core.Path.{sym, _∙_}
 use borrow.Author.Needs.{needs}
-use Rattle.card.proofs.StartLaws.{started-refused, started-done}
-use Rattle.card.specs.Sound.{startable}
+use Rattle.card.proofs.StartLaws.{started-refused, started-begun, seed-begins}
+use Rattle.card.specs.Sound.{numbers-known}
 use Rattle.card.proofs.start.Statement.{statement}
 use Rattle.card.proofs.start.Tie as tie
 
-judge-start-requires : tie.Need-judge-start-requires
-judge-start-requires c κs = search needs
+check-numbers-requires : tie.Need-check-numbers-requires
+check-numbers-requires c κs = search needs
 
-enum-known-judged : tie.Need-enum-known-judged
-enum-known-judged c = search needs
+enum-known-checked : tie.Need-enum-known-checked
+enum-known-checked c = search needs
 
-enum-known-judged-2 : tie.Need-enum-known-judged-2
-enum-known-judged-2 c = search needs
+enum-known-checked-2 : tie.Need-enum-known-checked-2
+enum-known-checked-2 c = search needs
 
-lay-requires : tie.Need-lay-requires
-lay-requires c κs =
-    let at-judged2 = c .before .before in
-    let at-judge-start = at-judged2 .before .before in
-    startable _ _ _ _ (sym (at-judge-start .judge-start .ensures) ∙ at-judged2 .judged2 .given .1)
+slice-aggregate-begin : tie.Need-slice-aggregate-begin
+slice-aggregate-begin c = search needs
+
+begin-requires : tie.Need-begin-requires
+begin-requires c κs =
+    let at-checked2 = c .before .before .before in
+    let at-check-numbers = at-checked2 .before .before in
+    seed-begins _ (numbers-known _ _ (sym (at-check-numbers .check-numbers .ensures) ∙ at-checked2 .checked2 .given .1))
+
+returns : tie.Need-returns
+returns c = started-refused _ _ _ _ _ _ (c .before .before .before .check-numbers .ensures) _ (c .before .checked .given .1)
 
 same-length : tie.Need-same-length
 same-length c = search needs
 
-returns : tie.Need-returns
-returns c = started-refused _ _ _ _ _ _ (sym (c .before .before .before .judge-start .ensures) ∙ c .before .judged .given .1)
-
-same-length-2 : tie.Need-same-length-2
-same-length-2 c = search needs
-
 returns-2 : tie.Need-returns-2
 returns-2 c =
-    let at-lay = c .before .before in
-    let at-judged2 = at-lay .before .before .before in
-    let at-judge-start = at-judged2 .before .before in
-    started-done _ _ _ _ _ _ _ (sym (at-judge-start .judge-start .ensures) ∙ at-judged2 .judged2 .given .1) (at-lay .lay .ensures)
+    let at-begin = c .before .before in
+    let at-checked2 = at-begin .before .before .before .before in
+    let at-check-numbers = at-checked2 .before .before in
+    started-begun _ _ _ _ _ _ (at-check-numbers .check-numbers .ensures) _ _ _ (at-checked2 .checked2 .given .1) (at-begin .begin .ensures)
 
 pub start-spec : {M : Type 1} → statement M
 start-spec =
     tie.close
     (tie.spec
-    judge-start-requires
-    enum-known-judged
-    enum-known-judged-2
-    lay-requires
-    same-length
+    check-numbers-requires
+    enum-known-checked
+    enum-known-checked-2
+    slice-aggregate-begin
+    begin-requires
     returns
-    same-length-2
+    same-length
     returns-2)
