@@ -20,6 +20,7 @@ use Rattle.oneway.specs.Step.{known}
 use Rattle.pebbling.specs.Recursion.{schedule, positions, slots}
 use Rattle.pebbling.specs.Demands.{none-held-at-the-end, never-more-than-slots}
 use Rattle.pebbling.specs.Promises.{Power}
+use Rattle.pebbling.specs.Slots.{slots-some}
 use Rattle.refusals.specs.declared.Refusal.{Refusal}
 use Rattle.refusals.specs.declared.Refusal.the-variants.{UnknownFunction, TooManyTicks, UnknownSchedule, WrongLength, BadRecord}
 use Rattle.card.specs.declared.Head.{Head}
@@ -89,14 +90,6 @@ unfolding slots
 slots-other s k n = rw (ne-eqb s 1 n) refl
 
 -- there is a slot, so a value fits
-slots-some : (s k : ℕ) → 0 < slots s k
-unfolding slots
-slots-some s k = go (eqb s 1)
-  where
-    go : (b : Bool) → 0 < cond b (max (k + 1) (2 * k - 2)) (k + 1)
-    go true = omega arith
-    go false = omega arith
-
 pub first-slot : (head : Head) → widthOf head ≤ slotsSize head
 unfolding slotsSize
 first-slot head = omega (arith, mul-le-mul-left (widthOf head) (slots-some (head .schedule) (head .k)))

@@ -23,11 +23,11 @@ use Rattle.pebbling.specs.Recursion.{schedule, positions, putOut, work, tick, r
 use Rattle.refusals.specs.declared.Refusal.the-variants.{WrongLength, Spent, NoRoom}
 use Rattle.card.specs.declared.Head.{Head}
 use Rattle.card.specs.declared.Inspected.the-variants.{Refused, Card}
-use Rattle.card.specs.Record.{widthOf, heldCount, cardBytes}
+use Rattle.card.specs.Record.{headAt, widthOf, heldCount, cardBytes}
 use Rattle.card.specs.Refused.{anchorJudged, later, inspectOf, ready, roundJudged}
 use Rattle.card.specs.Promises.{startMustSay, startCard, tickOrQuiet, judgedRoundSays, roundMustSay, roundOut, anchorOut}
 use Rattle.card.specs.Sound.{Sound, sound, held-later}
-use Rattle.card.specs.Run.{headAt, Given, after, recordAt, start-passes, spent-says, round-passes, round-puts-out, after-holds}
+use Rattle.card.specs.Run.{Given, after, recordAt, start-passes, spent-says, round-passes, round-puts-out, after-holds}
 
 module _ (function k s : ℕ) (seed lent : List ℕ) (given : Given function k s seed lent) where
   abbrev c : Chain

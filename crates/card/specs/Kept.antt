@@ -22,7 +22,7 @@ use Rattle.card.specs.declared.Head.{Head}
 use Rattle.card.specs.declared.Inspected.the-variants.{Card}
 use Rattle.card.specs.Record.{chainOf, widthOf, heldCount, heldSize, slotsSize, size, headBytes, filled, cardBytes, headOf, heldValues, freeSlots, allZero, laidOut}
 use Rattle.card.specs.Refused.{numbers, inspectSlots, inspectOf}
-use Rattle.card.specs.Sound.{Numbered}
+use Rattle.card.specs.Sound.{Numbered, numbers-pass}
 
 -- ---- lists
 
@@ -99,10 +99,6 @@ module _ (head : Head) (vs : List (List ℕ)) (nr : Numbered head) (from : 0 < h
         ∙ drop-at (joined vs) (replicate n z ++ rest) (heldSize head) (hs .sized)) in
         rw (a, m, take-at (replicate n z) rest n (length-replicate n z)) (all-zeros n)
 
-  numbered : numbers head ≡ Card head
-  unfolding numbers
-  numbered = rw (nr .known, le-ltb 20 (head .k) (nr .small), le-ltb 3 (head .schedule) (nr .schedule)) refl
-
   module _ (old : List ℕ) (long : size head ≤ length old) where
     apart : over (cardBytes head vs) old ≡ headBytes head ++ (filled head vs ++ drop (size head) old)
     unfolding cardBytes
@@ -126,7 +122,7 @@ module _ (head : Head) (vs : List (List ℕ)) (nr : Numbered head) (from : 0 < h
           le-ltb (length (headBytes head ++ rest)) 16 (sixteen head _ s),
           laid-back rest,
           head-back rest,
-          numbered,
+          numbers-pass head nr,
           le-ltb (length (headBytes head ++ rest)) (size head) s,
           ne-eqb (head .round .0) 0 (λ e. omega arith),
           le-ltb (2 ^ suc (head .k)) (head .round .0) upto,

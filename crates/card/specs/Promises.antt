@@ -1,14 +1,14 @@
--- What start, round and anchor promise, and that each promise leaves no choice. The right sides are definitions over what was lent;
+-- What start, round, anchor, rebuild and the two calls for n ticks promise, and that each promise leaves no choice. The right sides are definitions over what was lent;
 -- a refusal is a case of them: its number alone is said, and no byte changes. Assumes nothing.
 use mathlib.Core.Path.{_≡_, refl, sym, ap, _∙_}
-use mathlib.Core.List.{List, [], _∷_}
+use mathlib.Core.List.{List, [], _∷_, map}
 use Prim.Native.Nat.{ℕ, _^_}
 use native.Mathlib.Omega.{arith}
 use Rattle.lists.specs.Values.{joined}
 use Rattle.lists.specs.Writing.{over}
 use Rattle.oneway.specs.Step.{step}
 use Rattle.oneway.specs.declared.Chain.{Chain}
-use Rattle.pebbling.specs.Recursion.{schedule, putOut, work, tick, round, chain}
+use Rattle.pebbling.specs.Recursion.{schedule, positions, putOut, work, tick, round, chain}
 use Rattle.refusals.specs.Numbers.{saidOf, said-tells, not-refused}
 use Rattle.card.specs.declared.Head.{Head}
 use Rattle.card.specs.declared.Inspected.{Inspected}
@@ -17,8 +17,8 @@ use Rattle.card.specs.declared.Answer.{Answer}
 use Rattle.card.specs.declared.Answer.the-variants.{Done, Refused}
 use Rattle.card.specs.declared.RoundAnswer.{RoundAnswer}
 use Rattle.card.specs.declared.RoundAnswer.the-variants.{Quiet, Tick, Refused as NoRound}
-use Rattle.card.specs.Record.{chainOf, cardBytes, heldValues}
-use Rattle.card.specs.Refused.{later, startJudged, roundJudged, anchorJudged}
+use Rattle.card.specs.Record.{headAt, chainOf, cardBytes, heldValues}
+use Rattle.card.specs.Refused.{later, startJudged, rebuildJudged, startTicksJudged, roundJudged, anchorJudged, anchorTicksJudged}
 
 -- ---- what the counter says: a refusal's number alone, or 0 and what there is to say
 
@@ -34,26 +34,51 @@ roundAnswerSays (NoRound refusal) = saidOf refusal
 
 -- ---- start: the record for round 1, slot 0 the seed
 
-abbrev pub first : ℕ → ℕ → ℕ → Head
-first function k schedule = record { function = function; schedule = schedule; k = k; round = record { 0 = 1 } }
+-- once the tests have judged: 0 where they pass, and then the record with these values
+abbrev pub judgedSays : Inspected → List ℕ
+judgedSays (TurnedDown refusal) = saidOf refusal
+judgedSays (Card head) = 0 ∷ []
 
-abbrev pub judgedStartSays : Inspected → List ℕ
-judgedStartSays (TurnedDown refusal) = saidOf refusal
-judgedStartSays (Card head) = 0 ∷ []
-
-abbrev pub judgedStartCard : List ℕ → List ℕ → Inspected → List ℕ
-judgedStartCard seed card (TurnedDown refusal) = card
-judgedStartCard seed card (Card head) = over (cardBytes head (seed ∷ [])) card
+abbrev pub judgedCard : (Head → List (List ℕ)) → List ℕ → Inspected → List ℕ
+judgedCard laid card (TurnedDown refusal) = card
+judgedCard laid card (Card head) = over (cardBytes head (laid head)) card
 
 unfoldable pub startMustSay : ℕ → ℕ → ℕ → List ℕ → List ℕ → List ℕ
-startMustSay function k schedule seed card = judgedStartSays (startJudged (first function k schedule) seed card)
+startMustSay function k schedule seed card = judgedSays (startJudged (headAt function k schedule 1) seed card)
 
 unfoldable pub startCard : ℕ → ℕ → ℕ → List ℕ → List ℕ → List ℕ
-startCard function k schedule seed card = judgedStartCard seed card (startJudged (first function k schedule) seed card)
+startCard function k schedule seed card = judgedCard (λ head. seed ∷ []) card (startJudged (headAt function k schedule 1) seed card)
 
 pub record Started (function k schedule : ℕ) (seed card : List ℕ) (answer : Answer) (card′ : List ℕ) : Type 0 where
   pub says : answerSays answer ≡ startMustSay function k schedule seed card
   pub leaves : card′ ≡ startCard function k schedule seed card
+
+-- ---- rebuild: the record before round r, the chain's elements at the positions held then
+
+abbrev pub elementsHeld : List ℕ → Head → List (List ℕ)
+elementsHeld seed head = map (chain (step (chainOf head)) seed) (positions (schedule (head .schedule)) (head .k) (head .round .0) 0)
+
+unfoldable pub rebuildMustSay : ℕ → ℕ → ℕ → ℕ → List ℕ → List ℕ → List ℕ
+rebuildMustSay function k schedule r seed card = judgedSays (rebuildJudged (headAt function k schedule r) seed card)
+
+unfoldable pub rebuildCard : ℕ → ℕ → ℕ → ℕ → List ℕ → List ℕ → List ℕ
+rebuildCard function k schedule r seed card = judgedCard (elementsHeld seed) card (rebuildJudged (headAt function k schedule r) seed card)
+
+pub record Rebuilt (function k schedule r : ℕ) (seed card : List ℕ) (answer : Answer) (card′ : List ℕ) : Type 0 where
+  pub says : answerSays answer ≡ rebuildMustSay function k schedule r seed card
+  pub leaves : card′ ≡ rebuildCard function k schedule r seed card
+
+-- ---- start of a card of n ticks: the record before round 2^(k+1) - n, k being the least with 2^k at least n
+
+unfoldable pub startTicksMustSay : ℕ → ℕ → ℕ → List ℕ → List ℕ → List ℕ
+startTicksMustSay function n schedule seed card = judgedSays (startTicksJudged function n schedule seed card)
+
+unfoldable pub startTicksCard : ℕ → ℕ → ℕ → List ℕ → List ℕ → List ℕ
+startTicksCard function n schedule seed card = judgedCard (elementsHeld seed) card (startTicksJudged function n schedule seed card)
+
+pub record StartedTicks (function n schedule : ℕ) (seed card : List ℕ) (answer : Answer) (card′ : List ℕ) : Type 0 where
+  pub says : answerSays answer ≡ startTicksMustSay function n schedule seed card
+  pub leaves : card′ ≡ startTicksCard function n schedule seed card
 
 -- ---- round: the recursion's round on the values that are held, whatever they are
 
@@ -106,21 +131,32 @@ pub record Rounded (card out : List ℕ) (answer : RoundAnswer) (card′ out′ 
   pub leaves : card′ ≡ roundCard card out
   pub writes : out′ ≡ roundOut card out
 
--- ---- anchor: the chain's element 2^k, at the front of the out buffer
+-- ---- anchor: the chain's element 2^k, at the front of the out buffer; of a card of n ticks: element n
+
+-- once the tests have judged: element n
+abbrev pub judgedElement : Chain → ℕ → List ℕ → List ℕ → Answer → List ℕ
+judgedElement c n seed out Done = over (chain (step c) seed n) out
+judgedElement c n seed out (Refused refusal) = out
 
 unfoldable pub anchorMustSay : Chain → ℕ → List ℕ → List ℕ → List ℕ
 anchorMustSay c k seed out = answerSays (anchorJudged c k seed out)
 
-abbrev pub judgedAnchorOut : Chain → ℕ → List ℕ → List ℕ → Answer → List ℕ
-judgedAnchorOut c k seed out Done = over (chain (step c) seed (2 ^ k)) out
-judgedAnchorOut c k seed out (Refused refusal) = out
-
 unfoldable pub anchorOut : Chain → ℕ → List ℕ → List ℕ → List ℕ
-anchorOut c k seed out = judgedAnchorOut c k seed out (anchorJudged c k seed out)
+anchorOut c k seed out = judgedElement c (2 ^ k) seed out (anchorJudged c k seed out)
 
 pub record Anchored (c : Chain) (k : ℕ) (seed out : List ℕ) (answer : Answer) (out′ : List ℕ) : Type 0 where
   pub says : answerSays answer ≡ anchorMustSay c k seed out
   pub writes : out′ ≡ anchorOut c k seed out
+
+unfoldable pub anchorTicksMustSay : Chain → ℕ → List ℕ → List ℕ → List ℕ
+anchorTicksMustSay c n seed out = answerSays (anchorTicksJudged c n seed out)
+
+unfoldable pub anchorTicksOut : Chain → ℕ → List ℕ → List ℕ → List ℕ
+anchorTicksOut c n seed out = judgedElement c n seed out (anchorTicksJudged c n seed out)
+
+pub record AnchoredTicks (c : Chain) (n : ℕ) (seed out : List ℕ) (answer : Answer) (out′ : List ℕ) : Type 0 where
+  pub says : answerSays answer ≡ anchorTicksMustSay c n seed out
+  pub writes : out′ ≡ anchorTicksOut c n seed out
 
 -- ---- no two answers say the same, so that from what is said one can tell the answer; and so each promise is kept by one answer and one
 -- content of each lent buffer
@@ -155,4 +191,19 @@ round-leaves-no-choice card out a b card₁ card₂ out₁ out₂ p q =
 pub anchor-leaves-no-choice : (c : Chain) (k : ℕ) (seed out : List ℕ) (a b : Answer) (out₁ out₂ : List ℕ)
     → Anchored c k seed out a out₁ → Anchored c k seed out b out₂ → (a ≡ b) × (out₁ ≡ out₂)
 anchor-leaves-no-choice c k seed out a b out₁ out₂ p q =
+    (answer-told a b (p .says ∙ sym (q .says)), p .writes ∙ sym (q .writes))
+
+pub rebuild-leaves-no-choice : (function k schedule r : ℕ) (seed card : List ℕ) (a b : Answer) (card₁ card₂ : List ℕ)
+    → Rebuilt function k schedule r seed card a card₁ → Rebuilt function k schedule r seed card b card₂ → (a ≡ b) × (card₁ ≡ card₂)
+rebuild-leaves-no-choice function k schedule r seed card a b card₁ card₂ p q =
+    (answer-told a b (p .says ∙ sym (q .says)), p .leaves ∙ sym (q .leaves))
+
+pub start-ticks-leaves-no-choice : (function n schedule : ℕ) (seed card : List ℕ) (a b : Answer) (card₁ card₂ : List ℕ)
+    → StartedTicks function n schedule seed card a card₁ → StartedTicks function n schedule seed card b card₂ → (a ≡ b) × (card₁ ≡ card₂)
+start-ticks-leaves-no-choice function n schedule seed card a b card₁ card₂ p q =
+    (answer-told a b (p .says ∙ sym (q .says)), p .leaves ∙ sym (q .leaves))
+
+pub anchor-ticks-leaves-no-choice : (c : Chain) (n : ℕ) (seed out : List ℕ) (a b : Answer) (out₁ out₂ : List ℕ)
+    → AnchoredTicks c n seed out a out₁ → AnchoredTicks c n seed out b out₂ → (a ≡ b) × (out₁ ≡ out₂)
+anchor-ticks-leaves-no-choice c n seed out a b out₁ out₂ p q =
     (answer-told a b (p .says ∙ sym (q .says)), p .writes ∙ sym (q .writes))

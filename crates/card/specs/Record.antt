@@ -12,6 +12,12 @@ use Rattle.pebbling.specs.Recursion.{schedule, positions, slots}
 use Rattle.lists.specs.Values.{values, joined}
 use Rattle.card.specs.declared.Head.{Head}
 
+-- ---- heads
+
+-- a card of a function, a schedule and k, before its round r
+abbrev pub headAt : ℕ → ℕ → ℕ → ℕ → Head
+headAt function k s r = record { function = function; schedule = s; k = k; round = record { 0 = r } }
+
 -- ---- what a head says of its record
 
 abbrev pub chainOf : Head → Chain

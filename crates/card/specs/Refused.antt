@@ -5,16 +5,17 @@ use mathlib.Core.List.{List}
 use Prim.Native.Nat.{ℕ, suc, _^_}
 use lib.Dec.{eqb, ltb}
 use lib.ListN.{length}
+use Rattle.levels.specs.Levels.{allowed, level, firstRound}
 use Rattle.oneway.specs.Step.{known, width}
 use Rattle.pebbling.specs.Recursion.{slots}
-use Rattle.refusals.specs.declared.Refusal.the-variants.{UnknownFunction, TooManyTicks, UnknownSchedule, WrongLength, BadRecord, Spent, NoRoom}
+use Rattle.refusals.specs.declared.Refusal.the-variants.{UnknownFunction, TooManyTicks, UnknownSchedule, WrongLength, BadRecord, Spent, NoRoom, BadTicks}
 use Rattle.oneway.specs.declared.Chain.{Chain}
 use Rattle.card.specs.declared.Head.{Head}
 use Rattle.card.specs.declared.Answer.{Answer}
 use Rattle.card.specs.declared.Answer.the-variants.{Done, Refused as NotDone}
 use Rattle.card.specs.declared.Inspected.{Inspected}
 use Rattle.card.specs.declared.Inspected.the-variants.{Refused, Card}
-use Rattle.card.specs.Record.{widthOf, heldCount, size, headOf, freeSlots, allZero, laidOut}
+use Rattle.card.specs.Record.{headAt, widthOf, heldCount, size, headOf, freeSlots, allZero, laidOut}
 
 -- what has passed goes on to the next tests
 abbrev pub passing : Inspected → (Head → Inspected) → Inspected
@@ -29,7 +30,7 @@ numbers head =
     (cond (ltb 3 (head .schedule)) (Refused UnknownSchedule)
     (Card head)))
 
--- ---- start: 1, 2, 3, and 4 for the seed and the lent record
+-- ---- start: 1, 2, 3, and 4 for the seed and the lent record; rebuild: 1, 2, 3, 5 for the round, and 4
 
 unfoldable pub roomFor : List ℕ → List ℕ → Head → Inspected
 roomFor seed card head =
@@ -38,14 +39,40 @@ roomFor seed card head =
 unfoldable pub startJudged : Head → List ℕ → List ℕ → Inspected
 startJudged head seed card = passing (numbers head) (roomFor seed card)
 
--- ---- anchor: 1, 2, and 4 for the seed and the out buffer
+unfoldable pub inRange : Head → Inspected
+inRange head =
+    cond (eqb (head .round .0) 0) (Refused BadRecord)
+    (cond (ltb (2 ^ suc (head .k)) (head .round .0)) (Refused BadRecord)
+    (Card head))
+
+unfoldable pub rebuildJudged : Head → List ℕ → List ℕ → Inspected
+rebuildJudged head seed card = passing (numbers head) (λ h. passing (inRange h) (roomFor seed card))
+
+-- ---- start of a card of n ticks: 1, 3, 10, and 4
+
+unfoldable pub startTicksJudged : ℕ → ℕ → ℕ → List ℕ → List ℕ → Inspected
+startTicksJudged function n schedule seed card =
+    cond (not (known function)) (Refused UnknownFunction)
+    (cond (ltb 3 schedule) (Refused UnknownSchedule)
+    (cond (not (allowed n)) (Refused BadTicks)
+    (roomFor seed card (headAt function (level n) schedule (firstRound n)))))
+
+-- ---- anchor: 1, 2, and 4 for the seed and the out buffer; of a card of n ticks: 1, 10, and 4
+
+abbrev pub roomForValue : Chain → List ℕ → List ℕ → Answer
+roomForValue chain seed out = cond (not (eqb (length seed) (width chain)) || ltb (length out) (width chain)) (NotDone WrongLength) Done
 
 unfoldable pub anchorJudged : Chain → ℕ → List ℕ → List ℕ → Answer
 anchorJudged chain k seed out =
     cond (not (known (chain .function))) (NotDone UnknownFunction)
     (cond (ltb 20 k) (NotDone TooManyTicks)
-    (cond (not (eqb (length seed) (width chain)) || ltb (length out) (width chain)) (NotDone WrongLength)
-    Done))
+    (roomForValue chain seed out))
+
+unfoldable pub anchorTicksJudged : Chain → ℕ → List ℕ → List ℕ → Answer
+anchorTicksJudged chain n seed out =
+    cond (not (known (chain .function))) (NotDone UnknownFunction)
+    (cond (not (allowed n)) (NotDone BadTicks)
+    (roomForValue chain seed out))
 
 -- ---- round
 

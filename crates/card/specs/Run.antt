@@ -18,17 +18,13 @@ use Rattle.refusals.specs.Numbers.{saidOf}
 use Rattle.refusals.specs.declared.Refusal.the-variants.{WrongLength, Spent}
 use Rattle.card.specs.declared.Head.{Head}
 use Rattle.card.specs.declared.Inspected.the-variants.{Card}
-use Rattle.card.specs.Record.{slotsSize, size, cardBytes, heldValues}
+use Rattle.card.specs.Record.{headAt, slotsSize, size, cardBytes, heldValues}
 use Rattle.card.specs.Refused.{numbers, roomFor, startJudged, inspectOf, ready, roundJudged}
-use Rattle.card.specs.Promises.{startCard, roundMustSay, roundCard, roundOut}
+use Rattle.card.specs.Promises.{startCard, elementsHeld, roundMustSay, roundCard, roundOut}
 use Rattle.card.specs.Sound.{Numbered, ready-passes}
 use Rattle.card.specs.Kept.{over-over, Holding, chain-holding, card-length, inspected, values-back}
 
 -- ---- definitions
-
--- a card of a function, a schedule and k, before its round r
-abbrev pub headAt : ℕ → ℕ → ℕ → ℕ → Head
-headAt function k s r = record { function = function; schedule = s; k = k; round = record { 0 = r } }
 
 -- a known function, a k and a schedule within their bounds, a seed of the function's width, and a lent record that is long enough
 pub record Given (function k s : ℕ) (seed lent : List ℕ) : Type 0 where
@@ -45,8 +41,7 @@ after function k s seed lent outs (suc n) = roundCard (after function k s seed l
 
 -- the record before round r as it is to be: the chain's elements at the positions held, from slot 0 on, over what was lent
 abbrev pub recordAt : (function k s : ℕ) (seed lent : List ℕ) → ℕ → List ℕ
-recordAt function k s seed lent r =
-    over (cardBytes (headAt function k s r) (map (chain (step (record { function = function })) seed) (positions (schedule s) k r 0))) lent
+recordAt function k s seed lent r = over (cardBytes (headAt function k s r) (elementsHeld seed (headAt function k s r))) lent
 
 -- ---- laws
 

@@ -16,7 +16,7 @@ use Rattle.card.specs.declared.Head.{Head}
 use Rattle.card.specs.declared.Inspected.{Inspected}
 use Rattle.card.specs.declared.Inspected.the-variants.{Refused, Card}
 use Rattle.card.specs.Record.{widthOf, heldCount, size, headOf, freeSlots, allZero, laidOut}
-use Rattle.card.specs.Refused.{passing, numbers, roomFor, startJudged, later, inspectSlots, inspectOf, ready, roundJudged}
+use Rattle.card.specs.Refused.{passing, numbers, roomFor, inRange, rebuildJudged, later, inspectSlots, inspectOf, ready, roundJudged}
 
 -- a test that was passed
 passed-by : (b : Bool) (x : Refusal) (rest : Inspected) (h : Head) → cond b (Refused x) rest ≡ Card h → (b ≡ false) × (rest ≡ Card h)
@@ -60,10 +60,10 @@ passed-on g next h e = go (numbers g) refl e
     go (Refused x) q e = let z : _≡_ {A = ℕ} 0 1 = cc in absurd (omega arith)
     go (Card j) q e = let same : g ≡ j = numbers-same g j q in (rw same (numbers-known g j q), rw same e)
 
--- ---- start
+-- ---- start and rebuild
 
-pub record Startable (seed card : List ℕ) (head : Head) : Type 0 where
-  pub numbered : Numbered head
+-- a seed of the function's width, and a record that is long enough
+pub record Roomy (seed card : List ℕ) (head : Head) : Type 0 where
   pub seeded : length seed ≡ widthOf head
   pub long : size head ≤ length card
 
@@ -72,16 +72,24 @@ neither true false e = (refl, refl)
 neither true true e = absurd (true≢false e)
 neither false b e = absurd (true≢false e)
 
-pub startable : (g : Head) (seed card : List ℕ) (h : Head) → startJudged g seed card ≡ Card h → Startable seed card h
-unfolding startJudged roomFor
-startable g seed card h e =
-    let a = passed-on g (roomFor seed card) h e in
-    let b = passed-by (not (eqb (length seed) (widthOf g)) || ltb (length card) (size g)) WrongLength (Card g) h (a .1) in
+pub roomy : (g : Head) (seed card : List ℕ) (h : Head) → roomFor seed card g ≡ Card h → (g ≡ h) × Roomy seed card g
+unfolding roomFor
+roomy g seed card h e =
+    let b = passed-by (not (eqb (length seed) (widthOf g)) || ltb (length card) (size g)) WrongLength (Card g) h e in
     let c = neither (eqb (length seed) (widthOf g)) (ltb (length card) (size g)) (b .0) in
     let d : Card g ≡ Card h = b .1 in
-    let same : g ≡ h = cc in
-    rw (← same)
-    (record { numbered = a .0; seeded = eqb-true (length seed) (widthOf g) (c .0); long = ltb-false (length card) (size g) (c .1) })
+    (cc, record { seeded = eqb-true (length seed) (widthOf g) (c .0); long = ltb-false (length card) (size g) (c .1) })
+
+-- the tests that come before pass the same head
+pub numbers-pass : (head : Head) → Numbered head → numbers head ≡ Card head
+unfolding numbers
+numbers-pass head n = rw (n .known, le-ltb 20 (head .k) (n .small), le-ltb 3 (head .schedule) (n .schedule)) refl
+
+pub rebuild-judged : (head : Head) (seed card : List ℕ) → Numbered head → 0 < head .round .0 → head .round .0 ≤ 2 ^ suc (head .k)
+    → rebuildJudged head seed card ≡ roomFor seed card head
+unfolding rebuildJudged inRange
+rebuild-judged head seed card n from upto =
+    rw (numbers-pass head n, ne-eqb (head .round .0) 0 (λ e. omega arith), le-ltb (2 ^ suc (head .k)) (head .round .0) upto) refl
 
 -- ---- a record that passes inspection
 

@@ -1,16 +1,18 @@
 // The card: a record of a chain's values, which a round moves on by the published recursion, and the calls on it. `layout` reads and
 // writes the record.
 ghost use mathlib.Core.Path.{_≡_};
-ghost use mathlib.Core.List.{[], _∷_};
 ghost use Prim.Native.Nat.{_≤_, _<_};
+ghost use lib.Dec.{T};
 ghost use Rattle.lists.specs.Writing.{over};
 ghost use Rattle.card.specs.Record.{cardBytes};
-ghost use Rattle.card.specs.Refused.{roomFor, startJudged};
+ghost use Rattle.oneway.specs.Step.{known};
+ghost use Rattle.card.specs.Refused.{roomFor};
 ghost use Rattle.card.specs.Refused.{later as laterOf};
-ghost use Rattle.card.specs.Promises.{Started, Rounded, Anchored};
-ghost use Rattle.card.specs.Sound.{Startable, Sound};
-ghost use Rattle.card.specs.Steps.{Running, Turned, Payable, Paid};
+ghost use Rattle.card.specs.Promises.{Started, Rebuilt, StartedTicks, Rounded, Anchored, AnchoredTicks};
+ghost use Rattle.card.specs.Sound.{Sound};
+ghost use Rattle.card.specs.Steps.{elementsAt, Layable, Beginning, Begun, Running, Turned, Payable, Paid, ElementPut};
 use oneway::Chain;
+use pebbling::PositionsAnswer;
 use pebbling::RoundNumber;
 use refusals::Refusal;
 
@@ -33,7 +35,7 @@ pub enum Inspected {
     Card(Head),
 }
 
-// The answer of start and anchor.
+// The answer of start, rebuild and anchor.
 pub enum Answer {
     Done,
     Refused(Refusal),
@@ -46,7 +48,7 @@ pub enum RoundAnswer {
     Refused(Refusal),
 }
 
-// Refusal 4 of start: the seed is to have the chain's width, and the record room for its slots.
+// Refusal 4 of start and rebuild: the seed is to have the chain's width, and the record room for its slots.
 fn room_for(head: Head, seed: &[u8], card: &[u8]) -> Inspected
     requires { ⌜ head .k ≤ 20 ⌝ }
     ensures { λ r. ⌜ r ≡ roomFor (now (seed .entry)) (now (card .entry)) head ⌝ }
@@ -64,26 +66,33 @@ fn room_for(head: Head, seed: &[u8], card: &[u8]) -> Inspected
     Inspected::Card(head)
 }
 
-// All that start refuses, in its order.
-fn judge_start(head: Head, seed: &[u8], card: &[u8]) -> Inspected
-    ensures { λ r. ⌜ r ≡ startJudged head (now (seed .entry)) (now (card .entry)) ⌝ }
-{
-    let checked = layout::check_numbers(head);
-    match checked {
-        Inspected::Refused(refusal) => Inspected::Refused(refusal),
-        Inspected::Card(h) => room_for(h, seed, card),
-    }
-}
-
-// The record for round 1: the seed in slot 0. The slots are made as zeros, so those behind it are free.
-fn lay(head: Head, seed: &[u8], card: &mut [u8])
-    requires { ⌜ Startable (now seed) (now card) head ⌝ }
-    ensures { λ _. ⌜ now (card .exit) ≡ over (cardBytes head (now (seed .entry) ∷ [])) (now (card .entry)) ⌝ }
+// A record with the chain's values at these positions from slot 0 on. The slots are made as zeros, so those behind the values are free.
+fn lay(head: Head, held: &[u32], seed: &[u8], card: &mut [u8])
+    requires { ⌜ Layable head (now held) (now seed) (now card) ⌝ }
+    ensures { λ _. ⌜ now (card .exit) ≡ over (cardBytes head (elementsAt (now (held .entry)) (now (seed .entry)) head)) (now (card .entry)) ⌝ }
 {
     let n = layout::slots_size(head);
+    let chain = Chain {
+        function: head.function,
+    };
     let mut slots = [0u8; MOST];
-    records::copy(seed, &mut slots);
+    refill::refill(chain, seed, held, &mut slots);
     layout::put(head, &slots[..n], card);
+}
+
+// What start and rebuild come to once their numbers are checked: refusal 4, or the record.
+fn begin(head: Head, held: &[u32], seed: &[u8], card: &mut [u8]) -> Answer
+    requires { ⌜ Beginning head (now held) ⌝ }
+    ensures { λ a. ⌜ Begun head (now (held .entry)) (now (seed .entry)) (now (card .entry)) a (now (card .exit)) ⌝ }
+{
+    let judged = room_for(head, seed, card);
+    match judged {
+        Inspected::Refused(refusal) => Answer::Refused(refusal),
+        Inspected::Card(h) => {
+            lay(h, held, seed, card);
+            Answer::Done
+        }
+    }
 }
 
 // Lays out a card of 2^k ticks in the lent record, to begin with round 1. Refuses an unknown function (1), k over 20 (2), a schedule
@@ -98,14 +107,71 @@ pub fn start(function: u32, k: u32, schedule: u32, seed: &[u8], card: &mut [u8])
         k,
         round,
     };
-    let judged = judge_start(head, seed, card);
-    match judged {
+    let checked = layout::check_numbers(head);
+    match checked {
         Inspected::Refused(refusal) => Answer::Refused(refusal),
         Inspected::Card(h) => {
-            lay(h, seed, card);
-            Answer::Done
+            // Before round 1 position 0 is held: the seed.
+            let held = [0u32; 1];
+            begin(h, &held, seed, card)
         }
     }
+}
+
+// Lays out, in the lent record, a card of 2^k ticks as it is before a round from 1 to 2^(k+1): the very record that a start and the
+// rounds before that one leave. It goes once along the chain, up to the highest position that is held. Refuses an unknown function (1),
+// k over 20 (2), a schedule over 3 (3), a round out of its range (5), and a seed not of the function's width or a record that is too
+// short (4), in this order. Bytes behind the record stay.
+pub fn rebuild(
+    function: u32,
+    k: u32,
+    schedule: u32,
+    round: u32,
+    seed: &[u8],
+    card: &mut [u8],
+) -> Answer
+    ensures { λ a. ⌜ Rebuilt function k schedule round (now (seed .entry)) (now (card .entry)) a (now (card .exit)) ⌝ }
+{
+    if oneway::known(function) {
+        // The position list makes the tests of k, schedule and round, in this order, and is long enough for any.
+        let mut held = [0u32; pebbling::MOST];
+        let listed = pebbling::positions(k, schedule, round, &mut held);
+        return match listed {
+            PositionsAnswer::Refused(refusal) => Answer::Refused(refusal),
+            PositionsAnswer::Listed { count, hashes: _ } => {
+                let round = RoundNumber(round);
+                let head = Head {
+                    function,
+                    schedule,
+                    k,
+                    round,
+                };
+                let end = count as usize;
+                begin(head, &held[..end], seed, card)
+            }
+        };
+    }
+    Answer::Refused(Refusal::UnknownFunction)
+}
+
+// Lays out a card of so many ticks in the lent record: k is the least with 2^k at least the ticks, and the card begins with round
+// 2^(k+1) - ticks, so that every round pays one. Refuses an unknown function (1), a schedule over 3 (3), ticks that are not from 1 to
+// 1,048,576 (10), and a seed not of the function's width or a record that is too short (4), in this order. Bytes behind the record stay.
+pub fn start_ticks(function: u32, ticks: u32, schedule: u32, seed: &[u8], card: &mut [u8]) -> Answer
+    ensures { λ a. ⌜ StartedTicks function ticks schedule (now (seed .entry)) (now (card .entry)) a (now (card .exit)) ⌝ }
+{
+    if oneway::known(function) {
+        if 3 < schedule {
+            return Answer::Refused(Refusal::UnknownSchedule);
+        }
+        if levels::allowed(ticks) {
+            let k = levels::level(ticks);
+            let first = levels::first_round(k, ticks);
+            return rebuild(function, k, schedule, first.0, seed, card);
+        }
+        return Answer::Refused(Refusal::BadTicks);
+    }
+    Answer::Refused(Refusal::UnknownFunction)
 }
 
 // The head after the round.
@@ -210,6 +276,23 @@ pub fn round(card: &mut [u8], out: &mut [u8]) -> RoundAnswer
     }
 }
 
+// The chain's element n, at the front of the out buffer, or refusal 4 for the seed's width or a short out buffer.
+fn put_element(chain: Chain, n: u32, seed: &[u8], out: &mut [u8]) -> Answer
+    requires { ⌜ T (known (chain .function)) ⌝ }
+    ensures { λ a. ⌜ ElementPut chain n (now (seed .entry)) (now (out .entry)) a (now (out .exit)) ⌝ }
+{
+    let w = oneway::width(chain);
+    if seed.len() != w {
+        return Answer::Refused(Refusal::WrongLength);
+    }
+    if out.len() < w {
+        return Answer::Refused(Refusal::WrongLength);
+    }
+    records::copy(seed, out);
+    records::walk(chain, n, &mut out[..w]);
+    Answer::Done
+}
+
 // Writes the anchor of a card of 2^k ticks, the chain's element 2^k from the seed, to the front of the out buffer. Refuses an unknown
 // function (1), k over 20 (2), and a seed not of the function's width or an out buffer that is too short (4), in this order.
 pub fn anchor(function: u32, k: u32, seed: &[u8], out: &mut [u8]) -> Answer
@@ -220,16 +303,23 @@ pub fn anchor(function: u32, k: u32, seed: &[u8], out: &mut [u8]) -> Answer
         if 20 < k {
             return Answer::Refused(Refusal::TooManyTicks);
         }
-        let w = oneway::width(chain);
-        if seed.len() != w {
-            return Answer::Refused(Refusal::WrongLength);
+        return put_element(chain, pebbling::powers::power(k), seed, out);
+    }
+    Answer::Refused(Refusal::UnknownFunction)
+}
+
+// Writes the anchor of a card of so many ticks, the chain's element of that number, to the front of the out buffer. Refuses an unknown
+// function (1), ticks that are not from 1 to 1,048,576 (10), and a seed not of the function's width or an out buffer that is too short
+// (4), in this order.
+pub fn anchor_ticks(function: u32, ticks: u32, seed: &[u8], out: &mut [u8]) -> Answer
+    ensures { λ a. ⌜ AnchoredTicks (record { function = function }) ticks (now (seed .entry)) (now (out .entry)) a (now (out .exit)) ⌝ }
+{
+    let chain = Chain { function };
+    if oneway::known(function) {
+        if levels::allowed(ticks) {
+            return put_element(chain, ticks, seed, out);
         }
-        if out.len() < w {
-            return Answer::Refused(Refusal::WrongLength);
-        }
-        records::copy(seed, out);
-        records::walk(chain, pebbling::powers::power(k), &mut out[..w]);
-        return Answer::Done;
+        return Answer::Refused(Refusal::BadTicks);
     }
     Answer::Refused(Refusal::UnknownFunction)
 }

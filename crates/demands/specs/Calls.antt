@@ -22,10 +22,10 @@ use Rattle.pebbling.specs.Recursion.{schedule, positions, work, chain}
 use Rattle.refusals.specs.Numbers.{saidOf}
 use Rattle.refusals.specs.declared.Refusal.{Refusal}
 use Rattle.refusals.specs.declared.Refusal.the-variants.{WrongLength, Spent}
-use Rattle.card.specs.Record.{slotsSize, size, cardBytes}
+use Rattle.card.specs.Record.{headAt, slotsSize, size, cardBytes}
 use Rattle.card.specs.Promises.{startCard, roundMustSay, roundCard, roundOut}
 use Rattle.card.specs.Kept.{chain-holding, card-length}
-use Rattle.card.specs.Run.{headAt, Given, after, recordAt, spent-says, short-says, start-leaves, round-leaves, after-holds}
+use Rattle.card.specs.Run.{Given, after, recordAt, spent-says, short-says, start-leaves, round-leaves, after-holds}
 use Rattle.card.specs.Demands.{preparing-round-says, preparing-round-writes-nothing, paying-round-says, paying-round-pays, optimal-paying-round-is-short}
 use Rattle.demands.specs.Unchanged.{round-says-refused-changes-nothing}
 

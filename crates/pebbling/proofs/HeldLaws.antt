@@ -1,23 +1,14 @@
 -- What the count of the values held comes to, over plain numbers: the split of the pebblers that run, and the room of a card.
 -- Assumes nothing.
 use mathlib.Core.Path.{_≡_, sym, ap, _∙_}
-use mathlib.Core.Bool.{Bool, true, false, cond}
-use Prim.Native.Nat.{ℕ, zero, suc, _+_, _-_, _*_, _^_, _≤_, _<_, max}
+use Prim.Native.Nat.{ℕ, zero, suc, _+_, _-_, _*_, _^_, _≤_, _<_}
 use native.Mathlib.Omega.{arith}
-use lib.Dec.{eqb}
 use lib.ListN.{length, length-append}
 use Rattle.pebbling.specs.Demands.{never-more-than-slots}
 use Rattle.pebbling.specs.Promises.{Power, Done, Holds, Aside}
 use Rattle.pebbling.specs.Recursion.{schedule, done, held, positions, slots}
+use Rattle.pebbling.specs.Slots.{slots-small}
 use Rattle.pebbling.specs.SideBySide.{positions-itself, positions-children, sidePositions, sidePositions-both, sidePositions-last, sidePositions-late, sideHeldCount, side-length}
-
-pub slots-small : (s k : ℕ) → k ≤ 20 → slots s k ≤ 38
-unfolding slots
-slots-small s k h = go (eqb s 1)
-  where
-    go : (b : Bool) → cond b (max (k + 1) (2 * k - 2)) (k + 1) ≤ 38
-    go true = omega arith
-    go false = omega arith
 
 -- ---- held_count_aside: P_k has children, and the last is P_j
 

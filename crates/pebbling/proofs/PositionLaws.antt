@@ -16,9 +16,8 @@ use Rattle.pebbling.specs.Recursion.{schedule, positions, work}
 use Rattle.pebbling.specs.SideBySide.{positions-ended, work-ended}
 use Rattle.pebbling.specs.Promises.{Power}
 use Rattle.pebbling.specs.PositionList.{positionsMustSay, positionsList, Positioned}
-use Rattle.pebbling.specs.Slots.{enough-slots}
+use Rattle.pebbling.specs.Slots.{enough-slots, slots-small}
 use Rattle.pebbling.proofs.HashLaws.{next-power}
-use Rattle.pebbling.proofs.HeldLaws.{slots-small}
 
 module _ (k s r : ℕ) (list : List ℕ) where
   refused : (why : Refusal) → positionsMustSay k s r list ≡ saidOf why → Positioned k s r list (Refused why) list

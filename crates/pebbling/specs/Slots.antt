@@ -1,9 +1,11 @@
 -- The slots of a card's record are enough for what is held before every round, under every schedule. Assumes nothing.
 use mathlib.Core.Path.{_≡_}
+use mathlib.Core.Bool.{Bool, true, false, cond}
 use mathlib.Core.Logic.{_⊎_, inl, inr}
-use Prim.Native.Nat.{ℕ, zero, suc, _+_, _-_, _^_, _≤_, _<_}
+use Prim.Native.Nat.{ℕ, zero, suc, _+_, _-_, _*_, _^_, _≤_, _<_, max}
 use native.Mathlib.Nat.{eq-zero-or-pos}
 use native.Mathlib.Omega.{arith}
+use lib.Dec.{eqb}
 use lib.ListN.{length}
 use Rattle.pebbling.specs.Len.{lt-len, len-le, lt-or-le}
 use Rattle.pebbling.specs.Recursion.{schedule, done, positions, slots}
@@ -41,3 +43,20 @@ enough-slots (suc zero) b k r base l = go (lt-or-le (2 ^ k) r)
 enough-slots (suc (suc zero)) b k r base l = roomy-slots (schedule 2) (fair 2 b) speed2-roomy k r base l
 enough-slots (suc (suc (suc zero))) b k r base l = roomy-slots (schedule 3) (fair 3 b) optimal-roomy k r base l
 enough-slots (suc (suc (suc (suc s)))) b k r base l = absurd (omega arith)
+
+-- there is a slot, and there are at most 38
+pub slots-some : (s k : ℕ) → 0 < slots s k
+unfolding slots
+slots-some s k = go (eqb s 1)
+  where
+    go : (b : Bool) → 0 < cond b (max (k + 1) (2 * k - 2)) (k + 1)
+    go true = omega arith
+    go false = omega arith
+
+pub slots-small : (s k : ℕ) → k ≤ 20 → slots s k ≤ 38
+unfolding slots
+slots-small s k h = go (eqb s 1)
+  where
+    go : (b : Bool) → cond b (max (k + 1) (2 * k - 2)) (k + 1) ≤ 38
+    go true = omega arith
+    go false = omega arith

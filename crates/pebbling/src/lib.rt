@@ -28,7 +28,7 @@ pub fn rounds_left(k: u32, round: RoundNumber) -> RoundsLeft
 }
 
 // The positions of the longest list: no k and schedule have more.
-const MOST: usize = 38;
+pub const MOST: usize = 38;
 
 // What the position list answers.
 pub enum PositionsAnswer {

@@ -3,7 +3,7 @@
 // the first number (position, how many positions, ticks credited); bits 40-63 the second (hashes). include/perchmellow.h declares them.
 ghost use mathlib.Core.Path.{_≡_};
 ghost use Prim.Native.Nat.{_≤_};
-ghost use Rattle.card.specs.Promises.{Started, Rounded, Anchored};
+ghost use Rattle.card.specs.Promises.{Started, Rebuilt, StartedTicks, Rounded, Anchored, AnchoredTicks};
 ghost use Rattle.pebbling.specs.PositionList.{Positioned};
 ghost use Rattle.post.specs.Promises.{Enrolled, Offered, Settled};
 ghost use Rattle.perchmellow.specs.Fits.{Fits, RoundFits, PositionsFit, OfferFits};
@@ -110,6 +110,37 @@ pub extern "C" fn perchmellow_start(
     done_word(answer)
 }
 
+// card::rebuild, for C and Rust.
+#[no_mangle]
+pub extern "C" fn perchmellow_rebuild(
+    function: u32,
+    k: u32,
+    schedule: u32,
+    round: u32,
+    seed: &[u8],
+    card: &mut [u8],
+) -> u64
+    ensures { λ w. ⌜ Exported doneWord (λ a. Rebuilt function k schedule round (now (seed .entry)) (now (card .entry)) a (now (card .exit))) w ⌝ }
+{
+    let answer = card::rebuild(function, k, schedule, round, seed, card);
+    done_word(answer)
+}
+
+// card::start_ticks, for C and Rust.
+#[no_mangle]
+pub extern "C" fn perchmellow_start_ticks(
+    function: u32,
+    ticks: u32,
+    schedule: u32,
+    seed: &[u8],
+    card: &mut [u8],
+) -> u64
+    ensures { λ w. ⌜ Exported doneWord (λ a. StartedTicks function ticks schedule (now (seed .entry)) (now (card .entry)) a (now (card .exit))) w ⌝ }
+{
+    let answer = card::start_ticks(function, ticks, schedule, seed, card);
+    done_word(answer)
+}
+
 // card::round, for C and Rust.
 #[no_mangle]
 pub extern "C" fn perchmellow_round(card: &mut [u8], out: &mut [u8]) -> u64
@@ -134,6 +165,20 @@ pub extern "C" fn perchmellow_anchor(function: u32, k: u32, seed: &[u8], out: &m
     ensures { λ w. ⌜ Exported doneWord (λ a. Anchored (record { function = function }) k (now (seed .entry)) (now (out .entry)) a (now (out .exit))) w ⌝ }
 {
     let answer = card::anchor(function, k, seed, out);
+    done_word(answer)
+}
+
+// card::anchor_ticks, for C and Rust.
+#[no_mangle]
+pub extern "C" fn perchmellow_anchor_ticks(
+    function: u32,
+    ticks: u32,
+    seed: &[u8],
+    out: &mut [u8],
+) -> u64
+    ensures { λ w. ⌜ Exported doneWord (λ a. AnchoredTicks (record { function = function }) ticks (now (seed .entry)) (now (out .entry)) a (now (out .exit))) w ⌝ }
+{
+    let answer = card::anchor_ticks(function, ticks, seed, out);
     done_word(answer)
 }
 

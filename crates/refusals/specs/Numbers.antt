@@ -17,6 +17,7 @@ use Rattle.refusals.specs.declared.Refusal.the-variants.{
   BadGap,
   NoRoom,
   NotTaken,
+  BadTicks,
 }
 
 abbrev pub numberOf : Refusal → ℕ
@@ -29,6 +30,7 @@ numberOf Spent = 6
 numberOf BadGap = 7
 numberOf NoRoom = 8
 numberOf NotTaken = 9
+numberOf BadTicks = 10
 
 -- all that the counter says: the number alone. A refusal that comes to carry a value beside its number says it here
 abbrev pub saidOf : Refusal → List ℕ
@@ -45,6 +47,7 @@ number-not-0 Spent = refl
 number-not-0 BadGap = refl
 number-not-0 NoRoom = refl
 number-not-0 NotTaken = refl
+number-not-0 BadTicks = refl
 
 -- so what begins with 0 is no refusal
 pub not-refused : (refusal : Refusal) (rest : List ℕ) → saidOf refusal ≡ 0 ∷ rest → ⊥
@@ -53,9 +56,9 @@ not-refused refusal rest e = let z : numberOf refusal ≡ 0 = cc in true≢false
 -- which refusal it is that the counter says so of
 heard : List ℕ → Refusal
 heard said =
-    getD (NotTaken ∷ UnknownFunction ∷ TooManyTicks ∷ UnknownSchedule ∷ WrongLength ∷ BadRecord ∷ Spent ∷ BadGap ∷ NoRoom ∷ [])
+    getD (BadTicks ∷ UnknownFunction ∷ TooManyTicks ∷ UnknownSchedule ∷ WrongLength ∷ BadRecord ∷ Spent ∷ BadGap ∷ NoRoom ∷ NotTaken ∷ [])
     (getD said 0 0)
-    NotTaken
+    BadTicks
 
 heard-said : (refusal : Refusal) → heard (saidOf refusal) ≡ refusal
 unfolding heard
@@ -68,6 +71,7 @@ heard-said Spent = refl
 heard-said BadGap = refl
 heard-said NoRoom = refl
 heard-said NotTaken = refl
+heard-said BadTicks = refl
 
 -- no two refusals are said alike: from what is said one can tell the refusal
 pub said-tells : (a b : Refusal) → saidOf a ≡ saidOf b → a ≡ b

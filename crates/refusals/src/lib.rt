@@ -22,6 +22,8 @@ pub enum Refusal {
     NoRoom,
     // No number of steps within the gap limit and the unpaid ticks leads to the value held.
     NotTaken,
+    // The ticks that a card is to have are not from 1 to 1,048,576.
+    BadTicks,
 }
 
 // The number that the counter says for a refusal, from 1 up; docs/RULES.md has the table.
@@ -38,5 +40,6 @@ pub fn number(refusal: Refusal) -> u32
         Refusal::BadGap => 7,
         Refusal::NoRoom => 8,
         Refusal::NotTaken => 9,
+        Refusal::BadTicks => 10,
     }
 }
