@@ -123,7 +123,7 @@ unfoldable pub after : (function k : ℕ) (anchor : List ℕ) (tick : ℕ → Li
 after function k anchor tick gaps post zero = enrolPost function k anchor post
 after function k anchor tick gaps post (suc m) = offerPost (after function k anchor tick gaps post m) (tick m) (gaps m)
 
--- the anchor is x_n, and the ticks are x_(n-1) down to x_0, wherever they come from
+-- a ride of n ticks: wherever they come from, the anchor is x_n and the ticks are x_(n-1) down to x_0
 pub record Ride (c : Chain) (k n : ℕ) (seed anchor : List ℕ) (tick : ℕ → List ℕ) (gaps : ℕ → ℕ) (post : List ℕ) : Type 0 where
   pub known : known (c .function) ≡ true
   pub small : k ≤ 20
@@ -147,6 +147,7 @@ module _ {c : Chain} {k n : ℕ} {seed anchor : List ℕ} {tick : ℕ → List �
   ride-enrolled =
       rw (ride .known, le-ltb 20 k (ride .small), eq-eqb (length anchor) (width c) wide-anchor, le-ltb (length post) size (ride .long)) refl
 
+  -- after m ticks the post holds x_(n-m)
   stands : (m i : ℕ) → m + i ≡ n → Standing c k n seed (offered m) m i
   unfolding after
   stands zero i e =

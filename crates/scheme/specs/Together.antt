@@ -5,7 +5,7 @@ use mathlib.Core.List.{List, [], _∷_}
 use Prim.Native.Nat.{ℕ, suc, _+_, _-_, _^_, _≤_, _<_}
 use native.Mathlib.Nat.{pow-succ'}
 use native.Mathlib.Omega.{arith}
-use lib.ListN.{length, take, drop}
+use lib.ListN.{length, take}
 use lib.Pow.{pow-pos}
 use lib.Seq.{take-at}
 use Rattle.records.specs.Chains.{chain-length}
@@ -39,7 +39,7 @@ module _ (function k s : ℕ) (seed lent : List ℕ) (given : Given function k s
       let r = 2 ^ k + m in
       let two = pow-succ' 2 k in
       ap (take (width c)) (paying-round-pays function k s seed lent given outs wide r n (omega arith) (omega arith))
-      ∙ take-at (x n) (drop (length (x n)) (outs r)) (width c) (chain-length c seed (given .seeded) n)
+      ∙ take-at (x n) _ (width c) (chain-length c seed (given .seeded) n)
 
   -- the anchor that the card's maker writes to the front of `buffer`
   module _ (buffer : List ℕ) (room : width c ≤ length buffer) where
@@ -50,7 +50,7 @@ module _ (function k s : ℕ) (seed lent : List ℕ) (given : Given function k s
     unfolding anchor
     anchor-is =
         ap (take (width c)) (anchor-is-the-last function k s seed lent given buffer room)
-        ∙ take-at (x (2 ^ k)) (drop (length (x (2 ^ k))) buffer) (width c) (chain-length c seed (given .seeded) (2 ^ k))
+        ∙ take-at (x (2 ^ k)) _ (width c) (chain-length c seed (given .seeded) (2 ^ k))
 
     -- the post: enrolled with that anchor, and then offered the ticks in order, each with a gap limit of its own
     module _ (post : List ℕ) (long : size ≤ length post) (gaps : ℕ → ℕ) (allowed : (m : ℕ) → Allowed (gaps m)) where
