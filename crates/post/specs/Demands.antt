@@ -1,10 +1,11 @@
 -- What is asked of a post, as theorems about what enrol, offer and settle say and leave. Assumes nothing.
 use mathlib.Core.Path.{_≡_, refl, sym, ap, _∙_}
-use mathlib.Core.Bool.{Bool, true, false, true≢false}
+use mathlib.Core.Bool.{Bool, true, false, cond, not, true≢false}
 use mathlib.Core.List.{List, [], _∷_}
 use Prim.Native.Nat.{ℕ, _+_, _^_, _≤_, _<_}
 use native.Mathlib.Omega.{arith}
-use borrow.Author.Tests.{le-ltb, eq-eqb}
+use borrow.Author.Tests.{le-ltb, eq-eqb, ne-eqb}
+use lib.Dec.{eqb}
 use lib.ListN.{length, drop, length-drop}
 use lib.Seq.{length-take-le}
 use Rattle.records.specs.Chains.{chain-add}
@@ -14,14 +15,14 @@ use Rattle.oneway.specs.Step.{known, step}
 use Rattle.pebbling.specs.Recursion.{chain}
 use Rattle.refusals.specs.Numbers.{saidOf, not-refused}
 use Rattle.refusals.specs.declared.Refusal.{Refusal}
-use Rattle.refusals.specs.declared.Refusal.the-variants.{NotTaken}
+use Rattle.refusals.specs.declared.Refusal.the-variants.{WrongLength, Spent, BadGap, NotTaken}
 use Rattle.post.specs.declared.Head.{Head}
 use Rattle.post.specs.declared.Found.{Found}
 use Rattle.post.specs.declared.Found.the-variants.{At, Nothing}
 use Rattle.post.specs.declared.Inspected.{Inspected}
 use Rattle.post.specs.declared.Inspected.the-variants.{Refused, Post}
 use Rattle.post.specs.Record.{size, chainOf, widthOf, postBytes, headOf, anchorOf, heldValue}
-use Rattle.post.specs.Refused.{numbers, enrolJudged, inspectOf, offerJudged, settleReady, settleJudged}
+use Rattle.post.specs.Refused.{numbers, enrolJudged, inspectOf, gapStrange, ready, offerJudged, settleReady, settleJudged}
 use Rattle.post.specs.Search.{same, fewest, least}
 use Rattle.post.specs.Fewest.{same-eq, eq-same, First, least-found, least-some}
 use Rattle.post.specs.Sound.{Numbered, sound, Searchable, searchable, Enrollable, enrollable}
@@ -115,6 +116,29 @@ credit-reached post value gap g e = go (offerJudged post value gap) refl e
     go : (seen : Inspected) → offerJudged post value gap ≡ seen → judgedOfferSays post value gap seen ≡ 0 ∷ g ∷ [] → offerJudged post value gap ≡ Post (headOf post)
     go (Refused r) q s = absurd (not-refused r (g ∷ []) s)
     go (Post h) q s = q ∙ ap Post (sym (sound post h (searchable post value gap h q .0) .0))
+
+-- ---- 6 is said where 2^k are paid, and nowhere else
+
+module _ (post value : List ℕ) (gap : ℕ) (head : Head) (formed : inspectOf post ≡ Post head) where
+  -- with a gap limit from 1 to 64, whatever is offered
+  pub spent-says-6 : gapStrange gap ≡ false → head .paid ≡ 2 ^ head .k → offerMustSay post value gap ≡ saidOf Spent
+  unfolding offerMustSay offerJudged ready
+  spent-says-6 fine all = rw (formed, fine, eq-eqb (head .paid) (2 ^ head .k) all) refl
+
+  -- with any gap limit
+  pub unspent-never-says-6 : (head .paid ≡ 2 ^ head .k → ⊥) → offerMustSay post value gap ≡ saidOf Spent → ⊥
+  unfolding offerMustSay offerJudged ready
+  unspent-never-says-6 some e =
+      go (gapStrange gap) (not (eqb (length value) (widthOf head))) (rw (formed, ne-eqb (head .paid) (2 ^ head .k) some) at e)
+    where
+      found : (seen : Found) → foundSays seen ≡ saidOf Spent → ⊥
+      found (At g) q = not-refused Spent (g ∷ []) (sym q)
+      found Nothing q = let z : _≡_ {A = ℕ} 9 6 = cc in omega arith
+
+      go : (strange wrong : Bool) → judgedOfferSays post value gap (cond strange (Refused BadGap) (cond wrong (Refused WrongLength) (Post head))) ≡ saidOf Spent → ⊥
+      go true wrong q = let z : _≡_ {A = ℕ} 7 6 = cc in omega arith
+      go false true q = let z : _≡_ {A = ℕ} 4 6 = cc in omega arith
+      go false false q = found (searchFinds post value gap head) q
 
 -- ---- a refusal changes nothing
 
