@@ -7,7 +7,7 @@ use mathlib.Core.List.{List, [], _∷_, _++_, map}
 use Prim.Native.Nat.{ℕ, suc, _+_, _-_, _*_, _^_, _≤_, _<_}
 use native.Mathlib.Nat.{eq-zero-or-pos, mul-le-mul-left}
 use native.Mathlib.Omega.{arith}
-use borrow.Author.Tests.{lt-ltb, le-ltb, eq-eqb, ne-eqb}
+use borrow.Author.Tests.{ltb-false, not-false, lt-ltb, le-ltb, eq-eqb, ne-eqb}
 use lib.Dec.{T, eqb, ltb}
 use lib.ListN.{length, take, drop, replicate, length-map, length-replicate, replicate-append-replicate}
 use lib.Pow.{pow-pos}
@@ -317,18 +317,18 @@ module _ (function n s : ℕ) (seed card : List ℕ) (x : Bool) (e : x ≡ known
   ticks-1 f = ticks-refused UnknownFunction (rw (← e, f) refl)
 
   module _ (t : x ≡ true) where
-    pub ticks-3 : 3 < s → StartedTicks function n s seed card (NotDone UnknownSchedule) card
+    pub ticks-3 : ltb 3 s ≡ true → StartedTicks function n s seed card (NotDone UnknownSchedule) card
     unfolding startTicksJudged
-    ticks-3 a = ticks-refused UnknownSchedule (rw (← e, t, lt-ltb 3 s a) refl)
+    ticks-3 a = ticks-refused UnknownSchedule (rw (← e, t, a) refl)
 
-    module _ (a : s ≤ 3) (y : Bool) (q : y ≡ allowed n) where
-      pub ticks-10 : y ≡ false → StartedTicks function n s seed card (NotDone BadTicks) card
+    module _ (a : ltb 3 s ≡ false) (y : Bool) (q : y ≡ allowed n) where
+      pub ticks-10 : not y ≡ true → StartedTicks function n s seed card (NotDone BadTicks) card
       unfolding startTicksJudged
-      ticks-10 f = ticks-refused BadTicks (rw (← e, t, le-ltb 3 s a, ← q, f) refl)
+      ticks-10 f = ticks-refused BadTicks (rw (← e, t, a, ← q, f) refl)
 
-      module _ (u : y ≡ true) where
+      module _ (u : not y ≡ false) where
         pub ticks-range : (0 < n) × (n ≤ 1048576)
-        ticks-range = allowed-range n (sym q ∙ u)
+        ticks-range = allowed-range n (sym q ∙ not-false y u)
 
         pub ticks-rebuilt : (k r : ℕ) (answer : Answer) (card′ : List ℕ) → k ≡ level n → r ≡ 2 ^ suc k - n → Rebuilt function k s r seed card answer card′
             → StartedTicks function n s seed card answer card′
@@ -346,7 +346,7 @@ module _ (function n s : ℕ) (seed card : List ℕ) (x : Bool) (e : x ≡ known
                 let first = first-round-pays n some few in
                 rw (l, round)
                 (rebuild-judged (headAt function (level n) s (firstRound n)) seed card
-                (record { known = sym e ∙ t; small = level-small n few; schedule = a })
+                (record { known = sym e ∙ t; small = level-small n few; schedule = ltb-false 3 s a })
                 (omega (arith, first .0, pow-pos (level n)))
                 (omega (arith, first .1))
-                ∙ unfold startTicksJudged in rw (← e, t, le-ltb 3 s a, ← q, u) refl)
+                ∙ unfold startTicksJudged in rw (← e, t, a, ← q, u) refl)

@@ -161,15 +161,17 @@ pub fn start_ticks(function: u32, ticks: u32, schedule: u32, seed: &[u8], card: 
     ensures { λ a. ⌜ StartedTicks function ticks schedule (now (seed .entry)) (now (card .entry)) a (now (card .exit)) ⌝ }
 {
     if oneway::known(function) {
-        if 3 < schedule {
+        let strange = 3 < schedule;
+        let unsold = !levels::allowed(ticks);
+        if strange {
             return Answer::Refused(Refusal::UnknownSchedule);
         }
-        if levels::allowed(ticks) {
-            let k = levels::level(ticks);
-            let first = levels::first_round(k, ticks);
-            return rebuild(function, k, schedule, first.0, seed, card);
+        if unsold {
+            return Answer::Refused(Refusal::BadTicks);
         }
-        return Answer::Refused(Refusal::BadTicks);
+        let k = levels::level(ticks);
+        let first = levels::first_round(k, ticks);
+        return rebuild(function, k, schedule, first.0, seed, card);
     }
     Answer::Refused(Refusal::UnknownFunction)
 }

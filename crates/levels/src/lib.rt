@@ -28,12 +28,13 @@ pub fn level(ticks: u32) -> u32
     bits(ticks - 1)
 }
 
-// The round with which a card of level k and so many ticks begins: as many rounds are left then as there are ticks, and each of them
-// pays one.
+// The round with which a card of level k and so many ticks begins. Its last round is 2^(k+1) - 1 and pays tick 0; before it comes a
+// round for each other tick.
 pub fn first_round(k: u32, ticks: u32) -> RoundNumber
-    requires { ⌜ (k ≤ 20) × (ticks ≤ 2 ^ k) ⌝ }
+    requires { ⌜ (k ≤ 20) × (0 < ticks) × (ticks ≤ 2 ^ k) ⌝ }
     ensures { λ round. ⌜ round .0 ≡ 2 ^ suc k - ticks ⌝ }
 {
-    let first = power(k + 1) - ticks;
+    let last = power(k + 1) - 1;
+    let first = last - (ticks - 1);
     RoundNumber(first)
 }
