@@ -117,8 +117,8 @@ uint64_t perchmellow_start(uint32_t function, uint32_t k, uint32_t schedule, con
  * k is PERCHMELLOW_LEVEL(ticks): every round of it is a tick. PERCHMELLOW_CARD(k, schedule) bytes are written.
  * Refuses: function (1), schedule (3), ticks (10), seed not of 16 bytes or record too short (4). Answers 0.
  */
-uint64_t perchmellow_start_ticks(uint32_t function, uint32_t ticks, uint32_t schedule, const uint8_t *seed, size_t seed_len, uint8_t *record,
-                                 size_t record_len);
+uint64_t perchmellow_start_ticks(uint32_t function, uint32_t ticks, uint32_t schedule, const uint8_t *seed, size_t seed_len,
+                                 uint8_t *record, size_t record_len);
 
 /*
  * Writes the record of a card of 2^k ticks before the round, from 1 to 2^(k+1), to the front of `record`: the bytes that a start and the

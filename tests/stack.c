@@ -85,8 +85,8 @@ static void refused(const char *name, uint32_t r) {
 }
 
 int main(void) {
-    size_t empty = taken(nothing), started = 0, sold = 0, rebuilt = 0, ran = 0, listed = 0, anchored = 0, led = 0, enrolled = 0, offered = 0,
-           settled = 0;
+    size_t empty = taken(nothing), started = 0, sold = 0, rebuilt = 0, ran = 0, listed = 0, anchored = 0, led = 0;
+    size_t enrolled = 0, offered = 0, settled = 0;
     long calls = 0;
     memset(seed, 7, sizeof seed);
     for (function = 0; function < 2; function++) {
