@@ -168,4 +168,8 @@ fn sizes() {
             assert_eq!(perchmellow::card_len(k, schedule), plain::card_len(k, schedule));
         }
     }
+    for ticks in (0..=70_000).chain((1 << 20) - 2..(1 << 20) + 3).chain([1 << 21, 1 << 31, u32::MAX]) {
+        let levels = (perchmellow::level(ticks), plain::level(ticks));
+        assert_eq!(levels.0.map_err(perchmellow::Refusal::number), levels.1.map_err(plain::Refusal::number), "{ticks} ticks");
+    }
 }
