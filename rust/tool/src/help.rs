@@ -190,6 +190,7 @@ pub const COMMANDS: &[Command] = &[
         example: &[
             SEED_LINE,
             "perchmellow ride --function aes --k 10 --seed-file seed.hex --gap 4 --miss 3,7-9",
+            "perchmellow ride --function aes --ticks 300 --seed-file seed.hex",
             START_LINE,
             ANCHOR_LINE,
             ENROL_LINE,
