@@ -6,6 +6,8 @@
  *
  * A card of 2^k ticks holds values of a chain: x_0 is the seed, x_(i+1) is the function of x_i, and the anchor is x_(2^k).
  * Its rounds put out x_(2^k - 1) down to x_0. A post keeps the value it took last and credits what leads to it.
+ * A card of any other number n of ticks is one of 2^k, k being the least with room for them (its level), that begins with its last n
+ * rounds: it puts out x_(n - 1) down to x_0, and its anchor is x_n.
  *
  * Every call checks its own input: numbers may be any, buffers of any length and content. A call that refuses has changed no byte.
  * A call that does not refuse has changed only what is said below; bytes behind a record, a value or a list stay.
@@ -29,6 +31,7 @@ extern "C" {
 /* ---- sizes, in bytes where nothing else is said */
 
 #define PERCHMELLOW_K_MOST 20u          /* the greatest k */
+#define PERCHMELLOW_TICKS_MOST 1048576u /* the most ticks of a card, 2^20 */
 #define PERCHMELLOW_GAP_MOST 64u        /* the greatest gap limit */
 #define PERCHMELLOW_VALUE 16u           /* a seed, an anchor, a tick */
 #define PERCHMELLOW_POST 40u            /* a post record */
@@ -37,7 +40,13 @@ extern "C" {
 
 /* slots of a card: k + 1, under speed-1 the larger of k + 1 and 2k - 2 */
 #define PERCHMELLOW_SLOTS(k, schedule) ((schedule) == PERCHMELLOW_SPEED_1 && (k) > 3u ? 2u * (k) - 2u : (k) + 1u)
-/* the record of a card of 2^k ticks, for k up to 20 */
+/* the level of a card of so many ticks, from 1 to 2^20: the least k with 2^k at least as many. PERCHMELLOW_LEVEL(300u) is 9 */
+#define PERCHMELLOW_LEVEL(ticks)                                                                                              \
+    (0u + ((ticks) > 1u) + ((ticks) > 2u) + ((ticks) > 4u) + ((ticks) > 8u) + ((ticks) > 16u) + ((ticks) > 32u) +             \
+     ((ticks) > 64u) + ((ticks) > 128u) + ((ticks) > 256u) + ((ticks) > 512u) + ((ticks) > 1024u) + ((ticks) > 2048u) +       \
+     ((ticks) > 4096u) + ((ticks) > 8192u) + ((ticks) > 16384u) + ((ticks) > 32768u) + ((ticks) > 65536u) +                   \
+     ((ticks) > 131072u) + ((ticks) > 262144u) + ((ticks) > 524288u))
+/* the record of a card of 2^k ticks, for k up to 20; of 300 ticks, PERCHMELLOW_CARD(PERCHMELLOW_LEVEL(300u), schedule) */
 #define PERCHMELLOW_CARD(k, schedule) (16u + PERCHMELLOW_VALUE * PERCHMELLOW_SLOTS(k, schedule))
 
 /* ---- records, byte by byte; numbers have the low byte first. docs/RULES.md, "Records", says more
@@ -52,9 +61,10 @@ extern "C" {
 /* ---- for firmware
  *
  * The library wants memcpy and memset of whoever links it, and nothing else: no heap, no other function of C's, no data of its own.
- * The most hashes that one call does, with k up to 20: start, positions and enrol none; offer 64; anchor and settle 2^k; a round by its
- * schedule, preparing and paying: rushing 2^k - 1 and 2^(k-1) - 1; speed-1 1 and k - 1; speed-2 2 and k - 1; optimal k / 2 + 1 and
- * (k + 1) / 2, rounded down (k at least 2). docs/FIRMWARE.md has the figures.
+ * The most hashes that one call does, with k up to 20: start, positions and enrol none; offer 64; anchor and settle 2^k; anchor_ticks n
+ * and start_ticks n - 1; rebuild as many as the highest position that is held, 2^k - 1 at most; a round by its schedule, preparing and
+ * paying: rushing 2^k - 1 and 2^(k-1) - 1; speed-1 1 and k - 1; speed-2 2 and k - 1; optimal k / 2 + 1 and (k + 1) / 2, rounded down
+ * (k at least 2). docs/FIRMWARE.md has the figures.
  */
 #define PERCHMELLOW_STACK 5120u         /* no call takes more stack than this, as the library is built here; tests/stack.c measures it */
 
@@ -86,11 +96,12 @@ extern "C" {
 #define PERCHMELLOW_TOO_MANY_TICKS 2u    /* k over 20 */
 #define PERCHMELLOW_UNKNOWN_SCHEDULE 3u  /* schedule over 3 */
 #define PERCHMELLOW_WRONG_LENGTH 4u      /* a seed, anchor or value not of 16 bytes; a record, list or out buffer too short */
-#define PERCHMELLOW_BAD_RECORD 5u        /* a record not as laid out; its round or ticks paid out of range */
+#define PERCHMELLOW_BAD_RECORD 5u        /* a record not as laid out; a round or ticks paid out of range */
 #define PERCHMELLOW_SPENT 6u             /* a card with no round left, or a post paid in full */
 #define PERCHMELLOW_BAD_GAP 7u           /* the gap limit outside 1 to 64 */
 #define PERCHMELLOW_NO_ROOM 8u           /* more values after the round than slots; proved never to come */
 #define PERCHMELLOW_NOT_TAKEN 9u         /* no number of steps leads from the value to the one held */
+#define PERCHMELLOW_BAD_TICKS 10u        /* the number of ticks outside 1 to 1,048,576 */
 
 /* ---- the calls. Each says the first refusal that applies, in the order given */
 
@@ -100,6 +111,23 @@ extern "C" {
  */
 uint64_t perchmellow_start(uint32_t function, uint32_t k, uint32_t schedule, const uint8_t *seed, size_t seed_len, uint8_t *record,
                            size_t record_len);
+
+/*
+ * Lays out a card of `ticks` ticks, from 1 to PERCHMELLOW_TICKS_MOST, at the front of `record`, to begin with round 2^(k+1) - ticks, where
+ * k is PERCHMELLOW_LEVEL(ticks): every round of it is a tick. PERCHMELLOW_CARD(k, schedule) bytes are written.
+ * Refuses: function (1), schedule (3), ticks (10), seed not of 16 bytes or record too short (4). Answers 0.
+ */
+uint64_t perchmellow_start_ticks(uint32_t function, uint32_t ticks, uint32_t schedule, const uint8_t *seed, size_t seed_len,
+                                 uint8_t *record, size_t record_len);
+
+/*
+ * Writes the record of a card of 2^k ticks before the round, from 1 to 2^(k+1), to the front of `record`: the bytes that a start and the
+ * rounds before it leave there. PERCHMELLOW_CARD(k, schedule) bytes are written. A card of n ticks of which p are paid goes on at round
+ * 2^(k+1) - n + p, where k is PERCHMELLOW_LEVEL(n).
+ * Refuses: function (1), k (2), schedule (3), round out of range (5), seed not of 16 bytes or record too short (4). Answers 0.
+ */
+uint64_t perchmellow_rebuild(uint32_t function, uint32_t k, uint32_t schedule, uint32_t round, const uint8_t *seed, size_t seed_len,
+                             uint8_t *record, size_t record_len);
 
 /*
  * Runs one round of the card in `record`. A preparing round is quiet: kind 0, its hashes, `out` untouched. A paying round is a tick:
@@ -123,7 +151,14 @@ uint64_t perchmellow_positions(uint32_t k, uint32_t schedule, uint32_t round, ui
 uint64_t perchmellow_anchor(uint32_t function, uint32_t k, const uint8_t *seed, size_t seed_len, uint8_t *out, size_t out_len);
 
 /*
- * Writes the record of a post for a card of 2^k ticks with this anchor, 0 paid, to the first 40 bytes of `record`.
+ * Writes the anchor of a card of `ticks` ticks, from 1 to PERCHMELLOW_TICKS_MOST, to the first 16 bytes of `out`.
+ * Refuses: function (1), ticks (10), seed not of 16 bytes or out buffer under 16 bytes (4). Answers 0.
+ */
+uint64_t perchmellow_anchor_ticks(uint32_t function, uint32_t ticks, const uint8_t *seed, size_t seed_len, uint8_t *out, size_t out_len);
+
+/*
+ * Writes the record of a post for a card of 2^k ticks with this anchor, 0 paid, to the first 40 bytes of `record`. For a card of n ticks
+ * k is PERCHMELLOW_LEVEL(n); the post counts to 2^k all the same, and the card has no tick for what is beyond n.
  * Refuses: function (1), k (2), anchor not of 16 bytes or record under 40 bytes (4). Answers 0.
  */
 uint64_t perchmellow_enrol(uint32_t function, uint32_t k, const uint8_t *anchor, size_t anchor_len, uint8_t *record, size_t record_len);

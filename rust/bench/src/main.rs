@@ -5,7 +5,7 @@ mod clock;
 mod measure;
 mod table;
 
-use measure::{chain, hash, offer, paying_rounds, whole_runs, Figures, Paying, Spread, BESIDE, FUNCTIONS};
+use measure::{chain, hash, offer, paying_rounds, rebuilds, whole_runs, Figures, Paying, Spread, BESIDE, FUNCTIONS};
 use table::{table, text};
 
 fn main() {
@@ -38,6 +38,14 @@ fn main() {
         rows.push(vec![name.into(), proved.shown(1e3, 1), plain.shown(1e3, 1), ratio.shown(1.0, 2)]);
     }
     table(markdown, &["Whole card", "Proved, ms", "Plain, ms", "Ratio"], &rows);
+
+    say("A rebuild of a card of 2^16 ticks before round 98,304, with half of its ticks paid, under the optimal schedule: 32,767 hashes.");
+    let mut rows = vec![];
+    for (function, name, plain) in BESIDE {
+        let Spread { proved, plain, ratio } = rebuilds(function, plain);
+        rows.push(vec![name.into(), proved.shown(1e3, 2), plain.shown(1e3, 2), ratio.shown(1.0, 2)]);
+    }
+    table(markdown, &["One rebuild", "Proved, ms", "Plain, ms", "Ratio"], &rows);
 
     say("One hash: an anchor at k = 20 less one at k = 0, through 1,048,575.");
     let mut rows = vec![];

@@ -96,6 +96,23 @@ pub fn whole_runs(function: u32, plain: &dyn Calls) -> Spread {
     spread
 }
 
+/// A rebuild in the middle of a card of k = 16, where 2^15 ticks are left.
+pub fn rebuilds(function: u32, plain: &dyn Calls) -> Spread {
+    let (k, round) = (16, (2 << 16) - (1 << 15));
+    let mut wanted = vec![0; card_len(k, OPTIMAL)];
+    Plain.rebuild(function, k, OPTIMAL, round, &SEED, &mut wanted).expect("a card can be rebuilt");
+    let [spread] = in_turns(15, plain, |calls| {
+        let mut record = vec![0; card_len(k, OPTIMAL)];
+        let seconds = time(|| {
+            let answer = calls.rebuild(function, k, OPTIMAL, black_box(round), black_box(&SEED), &mut record);
+            answer.expect("a card can be rebuilt");
+        });
+        assert_eq!(record, wanted, "{}: the card is rebuilt", calls.name());
+        [seconds]
+    });
+    spread
+}
+
 /// One hash, by a chain of 2^20.
 pub fn hash(function: u32, plain: &dyn Calls) -> Spread {
     let [spread] = in_turns(7, plain, |calls| [hash_by_anchors(calls, function, 20)]);

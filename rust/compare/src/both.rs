@@ -57,6 +57,16 @@ pub fn start(function: u32, k: u32, schedule: u32, seed: &[u8], record: &mut [u8
     agree(what, EDGE, [&mut seed.to_vec(), record], |calls, [seed, record]| calls.start(function, k, schedule, seed, record))
 }
 
+pub fn start_ticks(function: u32, ticks: u32, schedule: u32, seed: &[u8], record: &mut [u8]) -> Result<(), u8> {
+    let what = || format!("start_ticks({function}, {ticks}, {schedule}, seed, record)");
+    agree(what, EDGE, [&mut seed.to_vec(), record], |calls, [seed, record]| calls.start_ticks(function, ticks, schedule, seed, record))
+}
+
+pub fn rebuild(function: u32, k: u32, schedule: u32, round: u32, seed: &[u8], record: &mut [u8]) -> Result<(), u8> {
+    let what = || format!("rebuild({function}, {k}, {schedule}, {round}, seed, record)");
+    agree(what, EDGE, [&mut seed.to_vec(), record], |calls, [seed, record]| calls.rebuild(function, k, schedule, round, seed, record))
+}
+
 pub fn round(record: &mut [u8], out: &mut [u8]) -> Result<Turn, u8> {
     agree(|| "round(record, out)".into(), EDGE, [record, out], |calls, [record, out]| calls.round(record, out))
 }
@@ -69,6 +79,11 @@ pub fn positions(k: u32, schedule: u32, round: u32, list: &mut [u32]) -> Result<
 pub fn anchor(function: u32, k: u32, seed: &[u8], out: &mut [u8]) -> Result<(), u8> {
     let what = || format!("anchor({function}, {k}, seed, out)");
     agree(what, EDGE, [&mut seed.to_vec(), out], |calls, [seed, out]| calls.anchor(function, k, seed, out))
+}
+
+pub fn anchor_ticks(function: u32, ticks: u32, seed: &[u8], out: &mut [u8]) -> Result<(), u8> {
+    let what = || format!("anchor_ticks({function}, {ticks}, seed, out)");
+    agree(what, EDGE, [&mut seed.to_vec(), out], |calls, [seed, out]| calls.anchor_ticks(function, ticks, seed, out))
 }
 
 pub fn enrol(function: u32, k: u32, anchor: &[u8], record: &mut [u8]) -> Result<(), u8> {

@@ -22,13 +22,16 @@ pub struct Listed {
     pub hashes: u32,
 }
 
-/// The seven calls. A refusal is its number.
+/// The ten calls. A refusal is its number.
 pub trait Calls: Sync {
     fn name(&self) -> &'static str;
     fn start(&self, function: u32, k: u32, schedule: u32, seed: &[u8], record: &mut [u8]) -> Result<(), u8>;
+    fn start_ticks(&self, function: u32, ticks: u32, schedule: u32, seed: &[u8], record: &mut [u8]) -> Result<(), u8>;
+    fn rebuild(&self, function: u32, k: u32, schedule: u32, round: u32, seed: &[u8], record: &mut [u8]) -> Result<(), u8>;
     fn round(&self, record: &mut [u8], out: &mut [u8]) -> Result<Turn, u8>;
     fn positions(&self, k: u32, schedule: u32, round: u32, list: &mut [u32]) -> Result<Listed, u8>;
     fn anchor(&self, function: u32, k: u32, seed: &[u8], out: &mut [u8]) -> Result<(), u8>;
+    fn anchor_ticks(&self, function: u32, ticks: u32, seed: &[u8], out: &mut [u8]) -> Result<(), u8>;
     fn enrol(&self, function: u32, k: u32, anchor: &[u8], record: &mut [u8]) -> Result<(), u8>;
     fn offer(&self, record: &mut [u8], value: &[u8], gap: u32) -> Result<u32, u8>;
     fn settle(&self, function: u32, k: u32, anchor: &[u8], last: &[u8], paid: u32) -> Result<bool, u8>;
@@ -50,6 +53,14 @@ macro_rules! calls_of {
                 $of::start(function, k, schedule, seed, record).map_err($of::Refusal::number)
             }
 
+            fn start_ticks(&self, function: u32, ticks: u32, schedule: u32, seed: &[u8], record: &mut [u8]) -> Result<(), u8> {
+                $of::start_ticks(function, ticks, schedule, seed, record).map_err($of::Refusal::number)
+            }
+
+            fn rebuild(&self, function: u32, k: u32, schedule: u32, round: u32, seed: &[u8], record: &mut [u8]) -> Result<(), u8> {
+                $of::rebuild(function, k, schedule, round, seed, record).map_err($of::Refusal::number)
+            }
+
             fn round(&self, record: &mut [u8], out: &mut [u8]) -> Result<Turn, u8> {
                 match $of::round(record, out) {
                     Ok($of::Round::Quiet { hashes }) => Ok(Turn { position: None, hashes }),
@@ -67,6 +78,10 @@ macro_rules! calls_of {
 
             fn anchor(&self, function: u32, k: u32, seed: &[u8], out: &mut [u8]) -> Result<(), u8> {
                 $of::anchor(function, k, seed, out).map_err($of::Refusal::number)
+            }
+
+            fn anchor_ticks(&self, function: u32, ticks: u32, seed: &[u8], out: &mut [u8]) -> Result<(), u8> {
+                $of::anchor_ticks(function, ticks, seed, out).map_err($of::Refusal::number)
             }
 
             fn enrol(&self, function: u32, k: u32, anchor: &[u8], record: &mut [u8]) -> Result<(), u8> {

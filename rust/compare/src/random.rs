@@ -80,6 +80,16 @@ impl Random {
         self.known(20, &[21, 22, 31, 32, 63, 64, 255, 256, 276, 1 << 16, u32::MAX])
     }
 
+    /// A number of ticks, about the powers of two as often as between them, and now and then one that no card has.
+    pub fn ticks(&mut self) -> u32 {
+        let power = 1 << self.within(0, 20);
+        match self.below(12) {
+            0 => self.one_of(&[0, (1 << 20) + 1, (1 << 20) + 2, 1 << 21, 1 << 31, u32::MAX]),
+            1..5 => (power - 1 + self.below(3)).clamp(1, 1 << 20),
+            _ => self.within(1, power),
+        }
+    }
+
     fn known(&mut self, most: u32, unknown: &[u32]) -> u32 {
         match self.below(12) {
             0 => self.one_of(unknown),

@@ -1,7 +1,7 @@
 //! Random, damaged, short and long inputs for the card's calls.
 
 use compare::{both, cases, Calls, Plain, Random};
-use perchmellow::card_len;
+use perchmellow::{card_len, level, TICKS_MOST};
 
 /// The most hashes that a case may ask for, but for a few.
 const WORK: u32 = 2000;
@@ -13,6 +13,45 @@ fn start() {
         let seed = random.taken();
         let mut record = random.lent(card_len(k.min(21), schedule));
         both::start(function, k, schedule, &seed, &mut record).map(|()| "started")
+    });
+}
+
+#[test]
+fn start_ticks() {
+    cases("start_ticks", 0x7065_7263_6815, &["started"], &[1, 3, 4, 10], |random| {
+        let (function, mut ticks, schedule) = (random.function(), random.ticks(), random.schedule());
+        if (WORK..=TICKS_MOST).contains(&ticks) && !random.once_in(3000) {
+            ticks %= WORK;
+        }
+        let seed = random.taken();
+        let mut record = random.lent(card_len(level(ticks).unwrap_or(20), schedule));
+        both::start_ticks(function, ticks, schedule, &seed, &mut record).map(|()| "started")
+    });
+}
+
+#[test]
+fn rebuild() {
+    cases("rebuild", 0x7065_7263_6816, &["rebuilt", "spent"], &[1, 2, 3, 4, 5], |random| {
+        let (function, k, schedule) = (random.function(), random.k(), random.schedule());
+        let mut round = any_round(random, k.min(21), schedule);
+        if highest(k, schedule, round) > WORK && !random.once_in(3000) {
+            round = (2 << k) - random.within(0, WORK);
+        }
+        let seed = random.taken();
+        let mut record = random.lent(card_len(k.min(21), schedule));
+        let spent = held(k, schedule, round) == 0;
+        both::rebuild(function, k, schedule, round, &seed, &mut record).map(|()| if spent { "spent" } else { "rebuilt" })
+    });
+}
+
+#[test]
+fn anchor_ticks() {
+    cases("anchor_ticks", 0x7065_7263_6817, &["put out"], &[1, 4, 10], |random| {
+        let (function, mut ticks, seed, mut out) = (random.function(), random.ticks(), random.taken(), random.lent(16));
+        if (WORK..=TICKS_MOST).contains(&ticks) && !random.once_in(3000) {
+            ticks %= WORK;
+        }
+        both::anchor_ticks(function, ticks, &seed, &mut out).map(|()| "put out")
     });
 }
 
@@ -86,6 +125,13 @@ fn any_round(random: &mut Random, k: u32, schedule: u32) -> u32 {
 /// How many values a card holds before the round; 0 where it has no such round.
 fn held(k: u32, schedule: u32, round: u32) -> usize {
     Plain.positions(k, schedule, round, &mut [0; 41]).map_or(0, |listed| listed.held as usize)
+}
+
+/// The highest position that a card holds before the round; 0 where it has no such round.
+fn highest(k: u32, schedule: u32, round: u32) -> u32 {
+    let mut list = [0; 41];
+    let _ = Plain.positions(k, schedule, round, &mut list);
+    list[0]
 }
 
 /// A record as it should be, but of any values, with more bytes behind it or without.

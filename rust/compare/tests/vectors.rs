@@ -30,6 +30,16 @@ const ANCHORS: [(u32, u32, &str); 8] = [
     (1, 20, "00304923c7ae165fb416da549a0362e4"),
 ];
 
+/// The same for cards of other numbers of ticks: function, ticks and the element of that number.
+const ANCHORS_OF_TICKS: [(u32, u32, &str); 6] = [
+    (0, 3, "c229ac46657a1bf63acdfef0af4342f3"),
+    (0, 300, "0d8c4f74cc875682058de9a81128d957"),
+    (0, 65_537, "e4b1846a911a92366f0e16b5798139b6"),
+    (1, 3, "7fd33c93316241be4be33fa21eb6641c"),
+    (1, 300, "0d8fd0950eb60c0284ca7e67d203bd00"),
+    (1, 65_537, "c836f1fcae32296b444fe39e796b95ab"),
+];
+
 const SEED: [u8; 16] = [0, 1, 2, 3, 4, 5, 6, 7, 8, 9, 10, 11, 12, 13, 14, 15];
 
 fn value(hex: &str) -> [u8; 16] {
@@ -50,6 +60,19 @@ fn anchors() {
         both::anchor(function, k, &SEED, &mut out).unwrap();
         assert_eq!(out, value(last), "function {function}, k {k}");
         assert_eq!(both::settle(function, k, &out, &SEED, 1 << k), Ok(true));
+    }
+}
+
+#[test]
+fn anchors_of_ticks() {
+    for (function, ticks, last) in ANCHORS_OF_TICKS {
+        let mut out = [0; 16];
+        both::anchor_ticks(function, ticks, &SEED, &mut out).unwrap();
+        assert_eq!(out, value(last), "function {function}, {ticks} ticks");
+        // one step from the card's first tick
+        let mut card = [0; 700];
+        both::start_ticks(function, ticks, 3, &SEED, &mut card).unwrap();
+        assert_eq!(both::step(function, card[16..].first_chunk().unwrap()), out);
     }
 }
 
@@ -167,5 +190,9 @@ fn sizes() {
             assert_eq!(perchmellow::slots(k, schedule), plain::slots(k, schedule));
             assert_eq!(perchmellow::card_len(k, schedule), plain::card_len(k, schedule));
         }
+    }
+    for ticks in (0..=70_000).chain((1 << 20) - 2..(1 << 20) + 3).chain([1 << 21, 1 << 31, u32::MAX]) {
+        let levels = (perchmellow::level(ticks), plain::level(ticks));
+        assert_eq!(levels.0.map_err(perchmellow::Refusal::number), levels.1.map_err(plain::Refusal::number), "{ticks} ticks");
     }
 }

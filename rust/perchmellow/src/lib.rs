@@ -20,6 +20,26 @@
 //! }
 //! # Ok::<(), perchmellow::Refusal>(())
 //! ```
+//!
+//! A card may have any number of ticks up to [`TICKS_MOST`]. Its [`level`] is the k that its record is laid out by, and every round of it
+//! is a tick:
+//!
+//! ```
+//! use perchmellow::{anchor_ticks, card_len, enrol, level, offer, round, start_ticks, Refusal, MD5, OPTIMAL, POST_LEN, VALUE_LEN};
+//!
+//! let (k, seed) = (level(300)?, [7; VALUE_LEN]);
+//! let mut card = vec![0; card_len(k, OPTIMAL)];
+//! let (mut last, mut post, mut tick) = ([0; VALUE_LEN], [0; POST_LEN], [0; VALUE_LEN]);
+//! start_ticks(MD5, 300, OPTIMAL, &seed, &mut card)?;
+//! anchor_ticks(MD5, 300, &seed, &mut last)?;
+//! enrol(MD5, k, &last, &mut post)?;
+//! for _ in 0..300 {
+//!     round(&mut card, &mut tick)?;
+//!     offer(&mut post, &tick, 1)?;
+//! }
+//! assert_eq!(round(&mut card, &mut tick), Err(Refusal::Spent));
+//! # Ok::<(), perchmellow::Refusal>(())
+//! ```
 
 use std::fmt;
 
@@ -35,6 +55,8 @@ pub const POST_LEN: usize = 40;
 pub const POSITIONS_MOST: usize = 38;
 /// The greatest k.
 pub const K_MOST: u32 = 20;
+/// The most ticks that a card can have.
+pub const TICKS_MOST: u32 = 1 << K_MOST;
 /// The greatest gap limit.
 pub const GAP_MOST: u32 = 64;
 
@@ -67,6 +89,21 @@ pub const fn card_len(k: u32, schedule: u32) -> usize {
     CARD_HEAD_LEN + VALUE_LEN * slots(k, schedule)
 }
 
+/// The level of a card of so many ticks: the least k with 2^k at least as many. Refuses ticks outside 1 to [`TICKS_MOST`].
+///
+/// ```
+/// use perchmellow::{level, Refusal, TICKS_MOST};
+///
+/// assert_eq!((level(256), level(257), level(300)), (Ok(8), Ok(9), Ok(9)));
+/// assert_eq!((level(0), level(TICKS_MOST + 1)), (Err(Refusal::BadTicks), Err(Refusal::BadTicks)));
+/// ```
+pub const fn level(ticks: u32) -> Result<u32, Refusal> {
+    match ticks {
+        1..=TICKS_MOST => Ok(u32::BITS - (ticks - 1).leading_zeros()),
+        _ => Err(Refusal::BadTicks),
+    }
+}
+
 /// Why a call did nothing. Its number is the one said at the counter.
 #[derive(Clone, Copy, Debug, PartialEq, Eq, Hash)]
 #[repr(u8)]
@@ -79,7 +116,7 @@ pub enum Refusal {
     UnknownSchedule = 3,
     /// A seed, anchor or value is not of 16 bytes, or a record, list or out buffer is too short.
     WrongLength = 4,
-    /// The record is not laid out as it should be, or its round or ticks paid are out of range.
+    /// The record is not laid out as it should be, or a round or the ticks paid are out of range.
     BadRecord = 5,
     /// The card has no round left, or the post is paid in full.
     Spent = 6,
@@ -89,6 +126,8 @@ pub enum Refusal {
     NoRoom = 8,
     /// No number of steps within the limit leads from the value to the one held.
     NotTaken = 9,
+    /// The number of ticks is not from 1 to 1,048,576.
+    BadTicks = 10,
 }
 
 impl Refusal {
@@ -108,6 +147,7 @@ impl Refusal {
             7 => Refusal::BadGap,
             8 => Refusal::NoRoom,
             9 => Refusal::NotTaken,
+            10 => Refusal::BadTicks,
             _ => unreachable!("the library answered refusal {number}, which its contract rules out"),
         }
     }
@@ -120,11 +160,12 @@ impl fmt::Display for Refusal {
             Refusal::TooManyTicks => "k is over 20",
             Refusal::UnknownSchedule => "the schedule is not one of 0 (rushing), 1 (speed-1), 2 (speed-2) and 3 (optimal)",
             Refusal::WrongLength => "a seed, anchor or value is not of 16 bytes, or a record, list or out buffer is too short",
-            Refusal::BadRecord => "the record is not laid out as it should be, or its round or ticks paid are out of range",
+            Refusal::BadRecord => "the record is not laid out as it should be, or a round or the ticks paid are out of range",
             Refusal::Spent => "the card has no round left, or the post is paid in full",
             Refusal::BadGap => "the gap limit is not from 1 to 64",
             Refusal::NoRoom => "the record has too few slots for what the round would hold",
             Refusal::NotTaken => "no number of steps within the gap limit and the unpaid ticks leads to the value held",
+            Refusal::BadTicks => "the number of ticks is not from 1 to 1048576",
         })
     }
 }
@@ -182,9 +223,29 @@ mod raw {
             record: *mut u8,
             record_len: usize,
         ) -> u64;
+        pub fn perchmellow_start_ticks(
+            function: u32,
+            ticks: u32,
+            schedule: u32,
+            seed: *const u8,
+            seed_len: usize,
+            record: *mut u8,
+            record_len: usize,
+        ) -> u64;
+        pub fn perchmellow_rebuild(
+            function: u32,
+            k: u32,
+            schedule: u32,
+            round: u32,
+            seed: *const u8,
+            seed_len: usize,
+            record: *mut u8,
+            record_len: usize,
+        ) -> u64;
         pub fn perchmellow_round(record: *mut u8, record_len: usize, out: *mut u8, out_len: usize) -> u64;
         pub fn perchmellow_positions(k: u32, schedule: u32, round: u32, list: *mut u32, list_len: usize) -> u64;
         pub fn perchmellow_anchor(function: u32, k: u32, seed: *const u8, seed_len: usize, out: *mut u8, out_len: usize) -> u64;
+        pub fn perchmellow_anchor_ticks(function: u32, ticks: u32, seed: *const u8, seed_len: usize, out: *mut u8, out_len: usize) -> u64;
         pub fn perchmellow_enrol(function: u32, k: u32, anchor: *const u8, anchor_len: usize, record: *mut u8, record_len: usize) -> u64;
         pub fn perchmellow_offer(record: *mut u8, record_len: usize, value: *const u8, value_len: usize, gap: u32) -> u64;
         pub fn perchmellow_settle(
@@ -208,6 +269,46 @@ pub fn start(function: u32, k: u32, schedule: u32, seed: &[u8], record: &mut [u8
     Word(word).check().map(|_| ())
 }
 
+/// Lays out a card of so many ticks in the front of `record`, to begin with the round that pays the first of them.
+///
+/// ```
+/// use perchmellow::{card_len, level, round, start_ticks, Round, AES, OPTIMAL, VALUE_LEN};
+///
+/// let mut card = vec![0; card_len(level(300)?, OPTIMAL)];
+/// start_ticks(AES, 300, OPTIMAL, &[7; VALUE_LEN], &mut card)?;
+/// assert!(matches!(round(&mut card, &mut [0; VALUE_LEN])?, Round::Tick { position: 299, .. }));
+/// # Ok::<(), perchmellow::Refusal>(())
+/// ```
+pub fn start_ticks(function: u32, ticks: u32, schedule: u32, seed: &[u8], record: &mut [u8]) -> Result<(), Refusal> {
+    let word =
+        unsafe { raw::perchmellow_start_ticks(function, ticks, schedule, seed.as_ptr(), seed.len(), record.as_mut_ptr(), record.len()) };
+    Word(word).check().map(|_| ())
+}
+
+/// Writes the record of a card of 2^k ticks before a round, from 1 to 2^(k+1), to the front of `record`: the bytes that a start and the
+/// rounds before it leave there. It does as many hashes as the highest position that is held. A card of n ticks of which p are paid goes
+/// on at round 2^(k+1) - n + p, k being its [`level`].
+///
+/// ```
+/// use perchmellow::{card_len, rebuild, round, start, MD5, OPTIMAL, VALUE_LEN};
+///
+/// let (k, seed) = (4, [7; VALUE_LEN]);
+/// let mut card = vec![0; card_len(k, OPTIMAL)];
+/// let mut lost = card.clone();
+/// start(MD5, k, OPTIMAL, &seed, &mut lost)?;
+/// for _ in 1..20 {
+///     round(&mut lost, &mut [0; VALUE_LEN])?;
+/// }
+/// rebuild(MD5, k, OPTIMAL, 20, &seed, &mut card)?;
+/// assert_eq!(card, lost);
+/// # Ok::<(), perchmellow::Refusal>(())
+/// ```
+pub fn rebuild(function: u32, k: u32, schedule: u32, round: u32, seed: &[u8], record: &mut [u8]) -> Result<(), Refusal> {
+    let word =
+        unsafe { raw::perchmellow_rebuild(function, k, schedule, round, seed.as_ptr(), seed.len(), record.as_mut_ptr(), record.len()) };
+    Word(word).check().map(|_| ())
+}
+
 /// Runs one round of the card. A tick goes to the front of `out`; a quiet round leaves it alone.
 pub fn round(record: &mut [u8], out: &mut [u8]) -> Result<Round, Refusal> {
     let word = Word(unsafe { raw::perchmellow_round(record.as_mut_ptr(), record.len(), out.as_mut_ptr(), out.len()) }).check()?;
@@ -224,6 +325,22 @@ pub fn positions(k: u32, schedule: u32, round: u32, list: &mut [u32]) -> Result<
 /// Writes the anchor of a card of 2^k ticks to the front of `out`.
 pub fn anchor(function: u32, k: u32, seed: &[u8], out: &mut [u8]) -> Result<(), Refusal> {
     let word = unsafe { raw::perchmellow_anchor(function, k, seed.as_ptr(), seed.len(), out.as_mut_ptr(), out.len()) };
+    Word(word).check().map(|_| ())
+}
+
+/// Writes the anchor of a card of so many ticks to the front of `out`. A post is enrolled with it and the card's [`level`].
+///
+/// ```
+/// use perchmellow::{anchor, anchor_ticks, MD5, VALUE_LEN};
+///
+/// let (seed, mut by_k, mut by_ticks) = ([7; VALUE_LEN], [0; VALUE_LEN], [0; VALUE_LEN]);
+/// anchor(MD5, 4, &seed, &mut by_k)?;
+/// anchor_ticks(MD5, 16, &seed, &mut by_ticks)?;
+/// assert_eq!(by_k, by_ticks);
+/// # Ok::<(), perchmellow::Refusal>(())
+/// ```
+pub fn anchor_ticks(function: u32, ticks: u32, seed: &[u8], out: &mut [u8]) -> Result<(), Refusal> {
+    let word = unsafe { raw::perchmellow_anchor_ticks(function, ticks, seed.as_ptr(), seed.len(), out.as_mut_ptr(), out.len()) };
     Word(word).check().map(|_| ())
 }
 

@@ -1,8 +1,8 @@
-//! The card: start, round, position list and anchor.
+//! The card: start, rebuild, round, position list and anchor.
 
 use crate::function::{bytes, words, Function};
 use crate::pebbles::{is_whole, newest, running, Pebbler};
-use crate::{check_k, front, value, Refusal, Value};
+use crate::{check_k, front, value, Refusal, Value, TICKS_MOST};
 
 /// Each card record begins with these two bytes.
 const MARK: [u8; 2] = [0xb7, 0x01];
@@ -38,6 +38,14 @@ pub const fn card_len(k: u32, schedule: u32) -> usize {
     HEAD_LEN + 16 * slots(k, schedule)
 }
 
+/// The least k with 2^k at least as many as the ticks, or refusal 10.
+pub const fn level(ticks: u32) -> Result<u32, Refusal> {
+    match ticks {
+        1..=TICKS_MOST => Ok(ticks.next_power_of_two().trailing_zeros()),
+        _ => Err(Refusal::BadTicks),
+    }
+}
+
 fn check_schedule(schedule: u32) -> Result<(), Refusal> {
     if schedule > 3 {
         return Err(Refusal::UnknownSchedule);
@@ -59,15 +67,46 @@ pub fn start(function: u32, k: u32, schedule: u32, seed: &[u8], record: &mut [u8
     check_k(k)?;
     check_schedule(schedule)?;
     let seed = value(seed)?;
+    lay(function, k, schedule, 1, record)?[0] = *seed;
+    Ok(())
+}
+
+/// Writes a record before `round` to the front of `record`, and answers its slots, all of them free; or refusal 4.
+fn lay(function: u32, k: u32, schedule: u32, round: u32, record: &mut [u8]) -> Result<&mut [Value], Refusal> {
     let record = record.get_mut(..card_len(k, schedule)).ok_or(Refusal::WrongLength)?;
     record.fill(0);
-    record[..2].copy_from_slice(&MARK);
-    record[2] = function as u8;
-    record[3] = schedule as u8;
-    record[4] = k as u8;
-    record[8] = 1;
-    record[HEAD_LEN..HEAD_LEN + 16].copy_from_slice(seed);
+    let (head, slots) = record.split_at_mut(HEAD_LEN);
+    head[..2].copy_from_slice(&MARK);
+    head[2] = function as u8;
+    head[3] = schedule as u8;
+    head[4] = k as u8;
+    head[8..12].copy_from_slice(&round.to_le_bytes());
+    Ok(slots.as_chunks_mut().0)
+}
+
+/// Writes the record of a card of 2^k ticks as it stands before `round` to the front of `record`: one walk from the seed up to the highest
+/// position held, which leaves the values it passes in their slots.
+pub fn rebuild(function: u32, k: u32, schedule: u32, round: u32, seed: &[u8], record: &mut [u8]) -> Result<(), Refusal> {
+    let chain = Function::of(function)?;
+    let mut list = [0; SLOTS_MOST];
+    let held = positions(k, schedule, round, &mut list)?.held as usize;
+    let seed = value(seed)?;
+    let slots = lay(function, k, schedule, round, record)?;
+    let (mut at, mut value) = (0, words(seed));
+    for (slot, position) in slots.iter_mut().zip(&list[..held]).rev() {
+        value = chain.on(value, position - at);
+        at = *position;
+        *slot = bytes(value);
+    }
     Ok(())
+}
+
+/// Lays out a card of so many ticks in the front of `record`, to begin with the round that pays the first of them.
+pub fn start_ticks(function: u32, ticks: u32, schedule: u32, seed: &[u8], record: &mut [u8]) -> Result<(), Refusal> {
+    Function::of(function)?;
+    check_schedule(schedule)?;
+    let k = level(ticks)?;
+    rebuild(function, k, schedule, (2 << k) - ticks, seed, record)
 }
 
 /// What the head of a record says.
@@ -206,5 +245,14 @@ pub fn anchor(function: u32, k: u32, seed: &[u8], out: &mut [u8]) -> Result<(), 
     check_k(k)?;
     let (seed, out) = (value(seed)?, front(out)?);
     *out = function.walk(seed, 1 << k);
+    Ok(())
+}
+
+/// Writes the anchor of a card of so many ticks to the front of `out`.
+pub fn anchor_ticks(function: u32, ticks: u32, seed: &[u8], out: &mut [u8]) -> Result<(), Refusal> {
+    let function = Function::of(function)?;
+    level(ticks)?;
+    let (seed, out) = (value(seed)?, front(out)?);
+    *out = function.walk(seed, ticks);
     Ok(())
 }

@@ -31,8 +31,14 @@ impl Function {
     }
 
     /// The element so many steps after this one.
+    #[inline]
+    pub fn on(self, value: Words, steps: u32) -> Words {
+        (0..steps).fold(value, |value, _| self.next(value))
+    }
+
+    /// The same, of bytes.
     pub fn walk(self, value: &Value, steps: u32) -> Value {
-        bytes((0..steps).fold(words(value), |value, _| self.next(value)))
+        bytes(self.on(words(value), steps))
     }
 }
 

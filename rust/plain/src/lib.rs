@@ -13,7 +13,7 @@ mod md5;
 mod pebbles;
 mod post;
 
-pub use card::{anchor, card_len, positions, round, slots, start, Listed, Round};
+pub use card::{anchor, anchor_ticks, card_len, level, positions, rebuild, round, slots, start, start_ticks, Listed, Round};
 pub use post::{enrol, offer, settle};
 
 /// Bytes in a value: a seed, an anchor or a tick.
@@ -22,6 +22,8 @@ pub const VALUE_LEN: usize = 16;
 pub const POST_LEN: usize = 40;
 /// The greatest k.
 pub const K_MOST: u32 = 20;
+/// The most ticks that a card can have.
+pub const TICKS_MOST: u32 = 1 << K_MOST;
 /// The greatest gap limit.
 pub const GAP_MOST: u32 = 64;
 
@@ -41,6 +43,7 @@ pub enum Refusal {
     BadGap = 7,
     NoRoom = 8,
     NotTaken = 9,
+    BadTicks = 10,
 }
 
 impl Refusal {

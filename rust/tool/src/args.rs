@@ -2,12 +2,37 @@
 
 use crate::help::{Command, COMMANDS};
 use crate::say::{out, Answer, Done, Json, Trouble};
-use perchmellow::{AES, MD5, OPTIMAL, RUSHING, SPEED_1, SPEED_2};
+use perchmellow::{level, Refusal, AES, K_MOST, MD5, OPTIMAL, RUSHING, SPEED_1, SPEED_2};
 use std::ffi::{OsStr, OsString};
 use std::path::Path;
 
 pub const FUNCTIONS: [(&str, u32); 2] = [("md5", MD5), ("aes", AES)];
 pub const SCHEDULES: [(&str, u32); 4] = [("rushing", RUSHING), ("speed-1", SPEED_1), ("speed-2", SPEED_2), ("optimal", OPTIMAL)];
+
+/// How many ticks a card has: 2^k of them, or any number.
+#[derive(Clone, Copy)]
+pub enum Size {
+    K(u32),
+    Ticks(u32),
+}
+
+impl Size {
+    /// The k of the card's record.
+    pub fn k(self) -> Result<u32, Refusal> {
+        match self {
+            Size::K(k) => Ok(k),
+            Size::Ticks(ticks) => level(ticks),
+        }
+    }
+
+    /// The ticks; of a k that no card has, those of the greatest.
+    pub fn ticks(self) -> u32 {
+        match self {
+            Size::K(k) => 1 << k.min(K_MOST),
+            Size::Ticks(ticks) => ticks,
+        }
+    }
+}
 
 /// A command's operands and options.
 pub struct Args {
@@ -134,6 +159,16 @@ impl Args {
     pub fn k(&self) -> Result<u32, Trouble> {
         self.needed("--k")?;
         Ok(self.number("--k")?.unwrap_or(0))
+    }
+
+    /// A card's size, by one of `--k` and `--ticks`.
+    pub fn size(&self) -> Result<Size, Trouble> {
+        match (self.number("--k")?, self.number("--ticks")?) {
+            (Some(k), None) => Ok(Size::K(k)),
+            (None, Some(ticks)) => Ok(Size::Ticks(ticks)),
+            (Some(_), Some(_)) => Err(self.wrong("--ticks", "cannot stand beside --k; give one of the two")),
+            (None, None) => Err(self.wrong("--k", "or --ticks is wanted")),
+        }
     }
 
     /// The schedule: optimal where nothing else is asked for.

@@ -1,29 +1,95 @@
-//! The card's side: start, round, positions, anchor and list.
+//! The card's side: start, rebuild, round, positions, anchor and list.
 
-use crate::args::{name_of, Args, FUNCTIONS, SCHEDULES};
+use crate::args::{name_of, Args, Size, FUNCTIONS, SCHEDULES};
 use crate::files::{shown, value, Locked};
 use crate::record::{Kind, Read};
 use crate::refused::Asked;
 use crate::run;
 use crate::say::{count, hex, out, Answer, Done, Json, Trouble};
-use perchmellow::{card_len, Refusal, Round, CARD_LEN_MOST, POSITIONS_MOST, VALUE_LEN};
+use perchmellow::{card_len, level, Refusal, Round, CARD_LEN_MOST, K_MOST, POSITIONS_MOST, VALUE_LEN};
 use std::fmt::Write;
 use std::path::Path;
 
 pub fn start(args: &Args) -> Done {
     let path = Path::new(args.operand(0)?);
-    let (function, k, schedule) = (args.function()?, args.k()?, args.schedule()?);
+    let (function, size, schedule) = (args.function()?, args.size()?, args.schedule()?);
     let seed = value(Path::new(args.needed("--seed-file")?))?;
+    let record = started(function, size, schedule, &seed)?;
+    Locked::place(path)?.write_first(&record)?;
+    args.answer(written(path, size, &record))?;
+    Ok(0)
+}
+
+/// The record of a new card.
+pub fn started(function: u32, size: Size, schedule: u32, seed: &[u8]) -> Result<Vec<u8>, Trouble> {
     let mut record = vec![0; CARD_LEN_MOST];
-    perchmellow::start(function, k, schedule, &seed, &mut record)
-        .map_err(|refusal| Asked::new(function, k).schedule(schedule).value("seed", &seed).refused("start", refusal))?;
+    let answer = match size {
+        Size::K(k) => perchmellow::start(function, k, schedule, seed, &mut record).map(|()| k),
+        Size::Ticks(ticks) => perchmellow::start_ticks(function, ticks, schedule, seed, &mut record).and_then(|()| level(ticks)),
+    };
+    let refused = |refusal| Asked::new(function, size).schedule(schedule).value("seed", seed).refused("start", refusal);
+    record.truncate(card_len(answer.map_err(refused)?, schedule));
+    Ok(record)
+}
+
+/// A card's anchor.
+pub fn anchored(function: u32, size: Size, seed: &[u8]) -> Result<[u8; VALUE_LEN], Trouble> {
+    let mut anchor = [0; VALUE_LEN];
+    match size {
+        Size::K(k) => perchmellow::anchor(function, k, seed, &mut anchor),
+        Size::Ticks(ticks) => perchmellow::anchor_ticks(function, ticks, seed, &mut anchor),
+    }
+    .map_err(|refusal| Asked::new(function, size).value("seed", seed).refused("anchor", refusal))?;
+    Ok(anchor)
+}
+
+/// Writes a card's record anew, at a round that is given, or at the one that follows from the ticks paid.
+pub fn rebuild(args: &Args) -> Done {
+    let path = Path::new(args.operand(0)?);
+    let (function, size, schedule) = (args.function()?, args.size()?, args.schedule()?);
+    let (round, paid) = match (args.number("--round")?, args.number("--paid")?) {
+        (None, None) => return Err(args.wrong("--round", "or --paid is wanted")),
+        (Some(_), Some(_)) => return Err(args.wrong("--paid", "cannot stand beside --round; give one of the two")),
+        asked => asked,
+    };
+    let seed = value(Path::new(args.needed("--seed-file")?))?;
+    let asked = || Asked::new(function, size).schedule(schedule).value("seed", &seed);
+    let k = size.k().map_err(|refusal| asked().refused("rebuild", refusal))?;
+    let first = (2 << k.min(K_MOST)) - size.ticks();
+    let round = round.or(paid.map(|paid| first.saturating_add(paid))).unwrap_or(0);
+    let mut record = vec![0; CARD_LEN_MOST];
+    perchmellow::rebuild(function, k, schedule, round, &seed, &mut record).map_err(|refusal| {
+        let range = match paid {
+            Some(paid) => format!("{paid} are said to be paid of {}", count(size.ticks(), "tick", "ticks")),
+            None => round_range(k, round),
+        };
+        asked().and(Refusal::BadRecord, range).refused("rebuild", refusal)
+    })?;
     record.truncate(card_len(k, schedule));
     Locked::place(path)?.write_first(&record)?;
-    args.answer(Answer {
+    args.answer(written(path, size, &record))?;
+    Ok(0)
+}
+
+fn round_range(k: u32, round: u32) -> String {
+    format!("the round is {round}, and for k = {k} it is from 1 to {}", 2u64 << k.min(40))
+}
+
+/// What is said of a card's record that has just been written.
+fn written(path: &Path, size: Size, record: &[u8]) -> Answer {
+    let read = Read::of(Kind::Card, record);
+    let (function, schedule) = (read.function.unwrap_or(0), read.schedule.unwrap_or(0));
+    let (round, left) = (read.round.unwrap_or(0), read.ticks_left().unwrap_or(0));
+    let next = match left {
+        0 => "all its rounds are run".into(),
+        left if left != size.ticks() => format!("its next round is {round}, and {} left to pay", count(left, "tick is", "ticks are")),
+        _ => format!("its next round is {round}"),
+    };
+    Answer {
         words: format!(
-            "{}: a card of {}, {}, {}, in {}; its next round is 1\n",
+            "{}: a card of {}, {}, {}, in {}; {next}\n",
             shown(path),
-            count(1 << k, "tick", "ticks"),
+            count(size.ticks(), "tick", "ticks"),
             name_of(function, &FUNCTIONS),
             name_of(schedule, &SCHEDULES),
             count(record.len() as u32, "byte", "bytes"),
@@ -32,11 +98,13 @@ pub fn start(args: &Args) -> Done {
             ("file", Json::text(shown(path))),
             ("function", Json::number(function)),
             ("schedule", Json::number(schedule)),
-            ("k", Json::number(k)),
+            ("k", Json::or_null(read.k)),
+            ("ticks", Json::number(size.ticks())),
+            ("round", Json::number(round)),
+            ("ticks_left", Json::number(left)),
             ("length", Json::number(record.len() as u64)),
         ],
-    })?;
-    Ok(0)
+    }
 }
 
 /// Rounds that followed each other, quiet ones together and a tick by itself.
@@ -152,8 +220,7 @@ pub fn positions(args: &Args) -> Done {
     let (k, schedule, round) = (args.k()?, args.schedule()?, args.number("--round")?.unwrap_or(0));
     let mut list = [0; POSITIONS_MOST];
     let listed = perchmellow::positions(k, schedule, round, &mut list).map_err(|refusal| {
-        let range = format!("the round is {round}, and for k = {k} it is from 1 to {}", 2u64 << k.min(40));
-        Asked::of_k(k).schedule(schedule).and(Refusal::BadRecord, range).refused("positions", refusal)
+        Asked::of_k(k).schedule(schedule).and(Refusal::BadRecord, round_range(k, round)).refused("positions", refusal)
     })?;
     let held = &list[..listed.held as usize];
     let values = count(listed.held, "value", "values");
@@ -180,12 +247,9 @@ fn listing(numbers: &[u32], between: &str) -> String {
 }
 
 pub fn anchor(args: &Args) -> Done {
-    let (function, k) = (args.function()?, args.k()?);
+    let (function, size) = (args.function()?, args.size()?);
     let seed = value(Path::new(args.needed("--seed-file")?))?;
-    let mut anchor = [0; VALUE_LEN];
-    perchmellow::anchor(function, k, &seed, &mut anchor)
-        .map_err(|refusal| Asked::new(function, k).value("seed", &seed).refused("anchor", refusal))?;
-    let anchor = hex(&anchor);
+    let anchor = hex(&anchored(function, size, &seed)?);
     if let Some(to) = args.path("--out") {
         Locked::place(to)?.write_public(format!("{anchor}\n").as_bytes())?;
     }

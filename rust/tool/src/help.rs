@@ -33,6 +33,8 @@ const fn may(form: &'static str, words: &'static str) -> Choice {
 
 const FUNCTION: Choice = needed("--function F", "md5 or aes, or the number 0 or 1");
 const K: Choice = needed("--k K", "the card has 2^K ticks; K from 0 to 20");
+const EITHER_K: Choice = may("--k K", "the card has 2^K ticks; K from 0 to 20. This or --ticks");
+const OR_TICKS: Choice = may("--ticks N", "the card has N ticks; N from 1 to 1048576. This or --k");
 const SCHEDULE: Choice = may("--schedule S", "rushing, speed-1, speed-2 or optimal, or 0 to 3; optimal if not given");
 const SEED: Choice = needed("--seed-file FILE", "the seed in 32 hex digits; - reads standard input");
 const GAP: Choice = may("--gap G", "the gap limit, from 1 to 64; 1 if not given");
@@ -49,11 +51,30 @@ pub const COMMANDS: &[Command] = &[
     Command {
         name: "start",
         operands: "CARD",
-        what: "Writes the record of a new card to the file CARD, before its round 1.",
-        options: &[FUNCTION, K, SEED, SCHEDULE, JSON],
+        what: "Writes the record of a new card to the file CARD: by --k before its round 1, by --ticks before its first tick.",
+        options: &[FUNCTION, EITHER_K, OR_TICKS, SEED, SCHEDULE, JSON],
         more: "CARD must not be there yet; it is made for this user alone to read. The seed is never printed.",
-        example: &[SEED_LINE, START_LINE],
+        example: &[SEED_LINE, START_LINE, "perchmellow start sold.pm --function md5 --ticks 300 --seed-file seed.hex"],
         run: cards::start,
+    },
+    Command {
+        name: "rebuild",
+        operands: "CARD",
+        what: "Writes a card's record anew from its seed, as it stands before a round: for one that is lost or damaged.",
+        options: &[
+            FUNCTION,
+            EITHER_K,
+            OR_TICKS,
+            SEED,
+            may("--round R", "the round, from 1 to 2^(K+1), K being the least with N ticks in it. This or --paid"),
+            may("--paid P", "the ticks that the post has paid; the card goes on with the next one. This or --round"),
+            SCHEDULE,
+            JSON,
+        ],
+        more: "CARD must not be there yet. Function, ticks and schedule have to be those that the card was started with. A card put\n\
+               back to an earlier round pays the same ticks again, and the post refuses them with 9.",
+        example: &[SEED_LINE, "perchmellow rebuild again.pm --function md5 --ticks 300 --paid 20 --seed-file seed.hex"],
+        run: cards::rebuild,
     },
     Command {
         name: "round",
@@ -83,7 +104,7 @@ pub const COMMANDS: &[Command] = &[
         name: "anchor",
         operands: "",
         what: "Works out a card's anchor, which a post is enrolled with, and prints it.",
-        options: &[FUNCTION, K, SEED, may("--out FILE", "write the anchor to FILE as well"), JSON],
+        options: &[FUNCTION, EITHER_K, OR_TICKS, SEED, may("--out FILE", "write the anchor to FILE as well"), JSON],
         more: "",
         example: &[SEED_LINE, ANCHOR_LINE],
         run: cards::anchor,
@@ -92,8 +113,8 @@ pub const COMMANDS: &[Command] = &[
         name: "enrol",
         operands: "POST",
         what: "Writes the record of a post that has taken nothing yet to the file POST.",
-        options: &[FUNCTION, K, needed("--anchor-file FILE", "the anchor in 32 hex digits; - reads standard input"), JSON],
-        more: "POST must not be there yet.",
+        options: &[FUNCTION, EITHER_K, OR_TICKS, needed("--anchor-file FILE", "the anchor in 32 hex digits; - reads standard input"), JSON],
+        more: "POST must not be there yet. It counts to a power of two: for a card of 300 ticks to 512.",
         example: &[SEED_LINE, ANCHOR_LINE, ENROL_LINE],
         run: posts::enrol,
     },
@@ -161,7 +182,7 @@ pub const COMMANDS: &[Command] = &[
             may("--schedule S", "without files: rushing, speed-1, speed-2 or optimal, or 0 to 3; optimal if not given"),
             GAP,
             may("--miss LIST", "ticks that get lost on the way, counted from 1 as they are put out: 3,7-9"),
-            may("--ticks N", "stop after N ticks"),
+            may("--ticks N", "stop after N ticks; without files and without --k: the card has N ticks"),
             may("--save", "with files: save both records; else they stay as they are"),
             JSON,
         ],
@@ -169,6 +190,7 @@ pub const COMMANDS: &[Command] = &[
         example: &[
             SEED_LINE,
             "perchmellow ride --function aes --k 10 --seed-file seed.hex --gap 4 --miss 3,7-9",
+            "perchmellow ride --function aes --ticks 300 --seed-file seed.hex",
             START_LINE,
             ANCHOR_LINE,
             ENROL_LINE,

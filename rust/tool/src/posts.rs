@@ -1,6 +1,6 @@
 //! The post's side: enrol, offer and settle.
 
-use crate::args::{name_of, Args, FUNCTIONS};
+use crate::args::{name_of, Args, Size, FUNCTIONS};
 use crate::files::{read, shown, value, Locked};
 use crate::record::{Kind, Read};
 use crate::refused::Asked;
@@ -10,20 +10,27 @@ use std::path::Path;
 
 pub fn enrol(args: &Args) -> Done {
     let path = Path::new(args.operand(0)?);
-    let (function, k) = (args.function()?, args.k()?);
+    let (function, size) = (args.function()?, args.size()?);
     let anchor = value(Path::new(args.needed("--anchor-file")?))?;
+    let refused = |refusal| Asked::new(function, size).value("anchor", &anchor).refused("enrol", refusal);
+    let k = size.k().map_err(refused)?;
     let mut record = [0; POST_LEN];
-    perchmellow::enrol(function, k, &anchor, &mut record)
-        .map_err(|refusal| Asked::new(function, k).value("anchor", &anchor).refused("enrol", refusal))?;
+    perchmellow::enrol(function, k, &anchor, &mut record).map_err(refused)?;
     Locked::place(path)?.write_first(&record)?;
+    let more = if size.ticks() < 1 << k { format!("; it counts to {}", 1 << k) } else { String::new() };
     args.answer(Answer {
         words: format!(
-            "{}: a post for a card of {}, {}; 0 paid\n",
+            "{}: a post for a card of {}, {}; 0 paid{more}\n",
             shown(path),
-            count(1 << k, "tick", "ticks"),
+            count(size.ticks(), "tick", "ticks"),
             name_of(function, &FUNCTIONS)
         ),
-        fields: vec![("file", Json::text(shown(path))), ("function", Json::number(function)), ("k", Json::number(k))],
+        fields: vec![
+            ("file", Json::text(shown(path))),
+            ("function", Json::number(function)),
+            ("k", Json::number(k)),
+            ("ticks", Json::number(size.ticks())),
+        ],
     })?;
     Ok(0)
 }
@@ -100,7 +107,7 @@ pub fn settle(args: &Args) -> Done {
         let (anchor, last) = (value(Path::new(anchor))?, value(Path::new(last))?);
         let yes = perchmellow::settle(function, k, &anchor, &last, paid).map_err(|refusal| {
             let range = format!("{paid} are said to be paid, and for k = {k} the most is {}", 1u64 << k.min(40));
-            let asked = Asked::new(function, k).value("anchor", &anchor).value("last value", &last);
+            let asked = Asked::new(function, Size::K(k)).value("anchor", &anchor).value("last value", &last);
             asked.and(Refusal::BadRecord, range).refused("settle", refusal)
         })?;
         (yes, paid)

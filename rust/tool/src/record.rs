@@ -98,6 +98,17 @@ impl Read {
         self.lines.iter().filter(|line| line.fault.is_some()).min_by_key(|line| line.turn)
     }
 
+    /// The rounds that a card has left, if its round is one of its rounds or their end.
+    pub fn rounds_left(&self) -> Option<u32> {
+        let end = 2 << self.k.filter(|k| *k <= K_MOST)?;
+        self.round.filter(|round| (1..=end).contains(round)).map(|round| end - round)
+    }
+
+    /// The ticks that a card has left to pay: a round each, once the preparing rounds are run.
+    pub fn ticks_left(&self) -> Option<u32> {
+        Some(self.rounds_left()?.min(1 << self.k?))
+    }
+
     fn line(&mut self, from: usize, to: usize, words: String) {
         self.lines.push(Line { from, to, words, fault: None, turn: 0 });
     }
@@ -147,7 +158,7 @@ impl Read {
         let Some(&number) = record.get(at) else { return };
         self.k = Some(number.into());
         let words = if u32::from(number) <= K_MOST {
-            format!("k = {number}: a card of {}", count(1 << number, "tick", "ticks"))
+            format!("k = {number}: a card of up to {}", count(1 << number, "tick", "ticks"))
         } else {
             format!("k = {number}, where {K_MOST} is the most")
         };

@@ -1,5 +1,6 @@
 //! The sentences of a refusal: what was found, and what to do about it.
 
+use crate::args::Size;
 use crate::record::{found, Kind};
 use crate::say::Trouble;
 use perchmellow::Refusal::{self, *};
@@ -10,8 +11,12 @@ use perchmellow::VALUE_LEN;
 pub struct Asked(Vec<(Refusal, String)>);
 
 impl Asked {
-    pub fn new(function: u32, k: u32) -> Asked {
-        Asked::of_k(k).and(UnknownFunction, format!("the function is {function}"))
+    pub fn new(function: u32, size: Size) -> Asked {
+        let size = match size {
+            Size::K(k) => Asked::of_k(k),
+            Size::Ticks(ticks) => Asked(vec![(BadTicks, format!("the number of ticks is {ticks}"))]),
+        };
+        size.and(UnknownFunction, format!("the function is {function}"))
     }
 
     pub fn of_k(k: u32) -> Asked {
@@ -54,7 +59,9 @@ fn remedy(refusal: Refusal, record: Option<Kind>) -> &'static str {
     match (refusal, record) {
         (Spent, Some(Kind::Card)) => "start a new card from a new seed",
         (Spent, _) => "settle, and enrol a post for the rider's next card",
-        (_, Some(Kind::Card)) => "look at it with 'perchmellow show'; it is damaged, so take a copy kept of it, or start a new card",
+        (_, Some(Kind::Card)) => {
+            "look at it with 'perchmellow show'; it is damaged, so take a copy kept of it, or rebuild it from its seed"
+        }
         (_, Some(Kind::Post)) => "look at it with 'perchmellow show'; it is damaged, so take a copy kept of it",
         (UnknownFunction, None) => "give --function md5 or aes",
         (TooManyTicks, None) => "give --k from 0 to 20",
@@ -63,6 +70,7 @@ fn remedy(refusal: Refusal, record: Option<Kind>) -> &'static str {
         (BadRecord, None) => "give a number in its range",
         (BadGap, None) => "give --gap from 1 to 64",
         (NoRoom, None) => "keep the file and report it, since no record should earn this",
+        (BadTicks, None) => "give --ticks from 1 to 1048576",
         (NotTaken, None) => "offer the card's next tick; if ticks were lost on the way, offer it with a greater --gap",
     }
 }

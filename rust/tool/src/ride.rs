@@ -1,12 +1,13 @@
 //! `ride`: a card pays a post, from files or from a seed, with ticks that get lost on the way.
 
-use crate::args::Args;
+use crate::args::{Args, Size};
+use crate::cards::{anchored, started};
 use crate::files::{read, value, Locked};
 use crate::posts::{paid, settle_record};
 use crate::record::{Kind, Read};
 use crate::refused::Asked;
 use crate::say::{count, Answer, Done, Json, Trouble};
-use perchmellow::{anchor, card_len, enrol, offer, round, start, Refusal, Round, CARD_LEN_MOST, POST_LEN, VALUE_LEN};
+use perchmellow::{enrol, offer, round, Refusal, Round, POST_LEN, VALUE_LEN};
 use std::ffi::OsStr;
 use std::fmt::Write as _;
 use std::io::{stderr, IsTerminal, Write};
@@ -83,14 +84,15 @@ fn records(args: &Args) -> Result<Records, Trouble> {
 }
 
 fn from_seed(args: &Args) -> Result<(Vec<u8>, Vec<u8>), Trouble> {
-    let (function, k, schedule) = (args.function()?, args.k()?, args.schedule()?);
+    let (function, schedule) = (args.function()?, args.schedule()?);
+    // Beside --k the ticks are where to stop, and without it they are all that the card has.
+    let size = args.number("--k")?.map_or_else(|| args.size(), |k| Ok(Size::K(k)))?;
     let seed = value(Path::new(args.needed("--seed-file")?))?;
-    let (mut card, mut post, mut end) = (vec![0; CARD_LEN_MOST], vec![0; POST_LEN], [0; VALUE_LEN]);
-    start(function, k, schedule, &seed, &mut card)
-        .and_then(|()| anchor(function, k, &seed, &mut end))
-        .and_then(|()| enrol(function, k, &end, &mut post))
-        .map_err(|refusal| Asked::new(function, k).schedule(schedule).value("seed", &seed).refused("start", refusal))?;
-    card.truncate(card_len(k, schedule));
+    let card = started(function, size, schedule, &seed)?;
+    let anchor = anchored(function, size, &seed)?;
+    let mut post = vec![0; POST_LEN];
+    let refused = |refusal| Asked::new(function, size).refused("enrol", refusal);
+    size.k().and_then(|k| enrol(function, k, &anchor, &mut post)).map_err(refused)?;
     Ok((card, post))
 }
 

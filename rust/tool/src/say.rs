@@ -28,7 +28,7 @@ pub const STATUSES: &str = "  0      done
   7      a file of that name is there already
   8      other trouble with a file or a standard stream
   9      a seed, anchor or value is not written in pairs of hex digits
-  11-19  refused: 10 and the refusal's number, 1 to 9
+  11-20  refused: 10 and the refusal's number, 1 to 10
 ";
 
 /// A JSON value.

@@ -9,7 +9,7 @@ use crate::files::{read, shown};
 use crate::posts::{paid, settle_record};
 use crate::record::{bytes_named, Kind, Line, Read};
 use crate::say::{count, Answer, Done, Json};
-use perchmellow::{settle, Refusal, CARD_HEAD_LEN, VALUE_LEN};
+use perchmellow::{settle, Refusal, CARD_HEAD_LEN, K_MOST, VALUE_LEN};
 use std::fmt::Write;
 use std::path::Path;
 
@@ -51,6 +51,9 @@ pub fn show(args: &Args) -> Done {
         let _ = writeln!(words, "{mark} {:16} {}", bytes_named(line.from, line.to), line.words);
     }
     words.push_str(&verdict(kind, refusal, told.fault()));
+    if matches!(refusal, None | Some(Refusal::Spent)) {
+        words.push_str(&to_pay(&told));
+    }
     if let Some((_, said)) = &chain {
         words.push_str(said);
     }
@@ -73,6 +76,16 @@ fn verdict(kind: Kind, refusal: Option<Refusal>, fault: Option<&Line>) -> String
         None => String::new(),
     };
     format!("{} refuses it with {}{place}: {refusal}.\n", kind.call(), refusal.number())
+}
+
+/// What a good card has left to pay; nothing for a post, which cannot know.
+fn to_pay(told: &Read) -> String {
+    let (Some(rounds), Some(ticks)) = (told.rounds_left(), told.ticks_left()) else { return String::new() };
+    let ticks_said = count(ticks, "tick is", "ticks are");
+    match rounds - ticks {
+        0 => format!("{ticks_said} left to pay.\n"),
+        preparing => format!("{ticks_said} left to pay, after {}.\n", count(preparing, "preparing round", "preparing rounds")),
+    }
 }
 
 /// Whether the values of a good record belong to one chain.
@@ -110,6 +123,8 @@ fn fields(kind: Kind, record: &[u8], told: &Read, refusal: Option<Refusal>, chai
             ("refusal", Json::or_null(line.fault.map(Refusal::number))),
         ])
     };
+    let most = told.k.filter(|k| *k <= K_MOST).map(|k| 1u32 << k);
+    let unpaid = told.paid.zip(most).and_then(|(paid, most)| most.checked_sub(paid));
     let mut fields = vec![
         ("kind", Json::text(kind.name())),
         ("length", Json::number(record.len() as u64)),
@@ -117,21 +132,15 @@ fn fields(kind: Kind, record: &[u8], told: &Read, refusal: Option<Refusal>, chai
         ("function", Json::or_null(told.function)),
         ("k", Json::or_null(told.k)),
     ];
-    let ends = told.k.filter(|k| *k <= perchmellow::K_MOST).map(|k| 2u32 << k);
     match kind {
         Kind::Card => fields.extend([
             ("schedule", Json::or_null(told.schedule)),
             ("round", Json::or_null(told.round)),
-            (
-                "rounds_left",
-                Json::or_null(told.round.zip(ends).filter(|(round, end)| (1..=*end).contains(round)).map(|(round, end)| end - round)),
-            ),
+            ("rounds_left", Json::or_null(told.rounds_left())),
+            ("ticks_left", Json::or_null(told.ticks_left())),
             ("slots", Json::List(told.slots.iter().map(|position| Json::or_null(*position)).collect())),
         ]),
-        Kind::Post => fields.extend([
-            ("paid", Json::or_null(told.paid)),
-            ("unpaid", Json::or_null(told.paid.zip(ends).and_then(|(paid, end)| (end / 2).checked_sub(paid)))),
-        ]),
+        Kind::Post => fields.extend([("paid", Json::or_null(told.paid)), ("unpaid", Json::or_null(unpaid))]),
     }
     fields.extend([
         ("one_chain", chain.map_or(Json::Null, Json::Yes)),

@@ -29,6 +29,118 @@ fn a_card_pays_a_post_from_seed_to_settled() {
 }
 
 #[test]
+fn a_card_of_any_number_of_ticks_pays_them_all() {
+    for (function, schedule, ticks, k) in
+        [("md5", "optimal", 1, 0), ("aes", "speed-1", 3, 2), ("md5", "rushing", 5, 3), ("aes", "speed-2", 8, 3)]
+    {
+        let folder = Folder::with_ticks(function, ticks, schedule);
+        assert_eq!(folder.answer(&["show", "card.pm"])["k"].number(), k);
+        for left in (0..u64::from(ticks)).rev() {
+            assert_eq!(folder.answer(&["show", "card.pm"])["ticks_left"].number(), left + 1);
+            let told = folder.answer(&["round", "card.pm", "--out", "tick.hex"]);
+            assert_eq!(told["rounds"].list()[0]["tick"].number(), left);
+            assert_eq!(folder.answer(&["offer", "post.pm", "--value-file", "tick.hex"])["credited"].number(), 1);
+        }
+        assert_eq!(folder.read("tick.hex"), format!("{SEED}\n").as_bytes(), "the last tick is element 0");
+        assert_eq!(folder.trouble(&["round", "card.pm"]).0, 16);
+        let told = folder.answer(&["settle", "post.pm"]);
+        assert_eq!((&told["yes"], told["paid"].number()), (&Value::Yes(true), ticks.into()));
+        assert_eq!(folder.good(&["show", "card.pm"]).lines().last(), Some("0 ticks are left to pay."));
+    }
+}
+
+#[test]
+fn a_whole_level_is_one_card_by_either_name() {
+    let (by_k, by_ticks) = (Folder::with_card("aes", 4, "optimal"), Folder::with_ticks("aes", 16, "optimal"));
+    by_k.good(&["round", "card.pm", "--times", "15"]);
+    for name in ["card.pm", "anchor.hex", "post.pm"] {
+        assert_eq!(by_k.read(name), by_ticks.read(name), "{name}");
+    }
+}
+
+#[test]
+fn a_rebuild_is_the_card_that_was_run() {
+    for (function, schedule) in [("md5", "optimal"), ("aes", "speed-1"), ("md5", "speed-2"), ("aes", "rushing")] {
+        let folder = Folder::with_card(function, 3, schedule);
+        let common = ["--function", function, "--schedule", schedule, "--seed-file", "seed.hex"];
+        for round in 1..=16u32 {
+            let (again, round_said) = (format!("again-{round}.pm"), round.to_string());
+            folder.good(&[&["rebuild", &again, "--k", "3", "--round", &round_said], &common[..]].concat());
+            assert_eq!(folder.read(&again), folder.read("card.pm"), "{function}, {schedule}, round {round}");
+            if let Some(paid) = round.checked_sub(8) {
+                // The same by the ticks paid, of the whole card and of one with a tick less.
+                for (name, size) in [("paid", ["--k", "3"]), ("whole", ["--ticks", "8"])] {
+                    let again = format!("{name}-{round}.pm");
+                    folder.good(&[&["rebuild", &again, "--paid", &paid.to_string()], &size[..], &common[..]].concat());
+                    assert_eq!(folder.read(&again), folder.read("card.pm"), "{function}, {schedule}, {paid} paid");
+                }
+            }
+            if let Some(paid) = round.checked_sub(16 - 5) {
+                let again = format!("five-{round}.pm");
+                folder.good(&[&["rebuild", &again, "--ticks", "5", "--paid", &paid.to_string()], &common[..]].concat());
+                assert_eq!(folder.read(&again), folder.read("card.pm"), "{function}, {schedule}, {paid} of 5 paid");
+            }
+            if round < 16 {
+                folder.good(&["round", "card.pm"]);
+            }
+        }
+    }
+}
+
+#[test]
+fn a_rebuild_says_where_the_card_stands() {
+    let folder = Folder::with_card("md5", 2, "optimal");
+    let rebuilt = |name: &str, more: &[&str]| {
+        let words = folder.good(&[&["rebuild", name, "--function", "md5", "--seed-file", "seed.hex"], more].concat());
+        words.split("; ").last().unwrap().to_string()
+    };
+    assert_eq!(rebuilt("a.pm", &["--ticks", "300", "--paid", "20"]), "its next round is 744, and 280 ticks are left to pay\n");
+    assert_eq!(rebuilt("b.pm", &["--ticks", "300", "--paid", "299"]), "its next round is 1023, and 1 tick is left to pay\n");
+    assert_eq!(rebuilt("c.pm", &["--ticks", "300", "--paid", "300"]), "all its rounds are run\n");
+    assert_eq!(rebuilt("d.pm", &["--ticks", "300", "--paid", "0"]), "its next round is 724\n");
+    assert_eq!(rebuilt("e.pm", &["--k", "9", "--round", "1"]), "its next round is 1\n");
+    assert_eq!(rebuilt("f.pm", &["--ticks", "300", "--round", "1"]), "its next round is 1, and 512 ticks are left to pay\n");
+    assert_eq!(folder.trouble(&["rebuild", "card.pm", "--function", "md5", "--k", "2", "--round", "1", "--seed-file", "seed.hex"]).0, 7);
+}
+
+/// A lost card is rebuilt by what its post has; put back too far, it pays what was paid, and none is lost.
+#[test]
+fn a_rebuilt_card_goes_on_paying() {
+    let folder = Folder::with_ticks("md5", 21, "optimal");
+    folder.good(&["ride", "card.pm", "post.pm", "--ticks", "9", "--save"]);
+    let before = folder.read("card.pm");
+    std::fs::remove_file(folder.path("card.pm")).unwrap();
+    let paid = folder.answer(&["show", "post.pm"])["paid"].number().to_string();
+    let rebuild = ["rebuild", "card.pm", "--function", "md5", "--ticks", "21", "--seed-file", "seed.hex", "--paid"];
+    folder.good(&[&rebuild[..], &[&paid]].concat());
+    assert_eq!(folder.read("card.pm"), before);
+    std::fs::remove_file(folder.path("card.pm")).unwrap();
+    folder.good(&[&rebuild[..], &["5"]].concat());
+    let told = folder.answer(&["ride", "card.pm", "post.pm", "--save"]);
+    assert_eq!((told["ticks"].number(), told["credited"].number(), told["paid"].number()), (16, 12, 21));
+    let refused = &told["refused"].list()[0];
+    assert_eq!((refused["refusal"].number(), refused["times"].number()), (9, 4));
+    assert_eq!(told["settle"], Value::Yes(true));
+}
+
+#[test]
+fn show_says_what_is_left_to_pay() {
+    let folder = Folder::with_card("md5", 3, "optimal");
+    let last = || folder.good(&["show", "card.pm"]).lines().find(|line| line.contains("left to pay")).map(String::from);
+    assert_eq!(last().as_deref(), Some("8 ticks are left to pay, after 7 preparing rounds."));
+    folder.good(&["round", "card.pm", "--times", "6"]);
+    assert_eq!(last().as_deref(), Some("8 ticks are left to pay, after 1 preparing round."));
+    folder.good(&["round", "card.pm"]);
+    assert_eq!(last().as_deref(), Some("8 ticks are left to pay."));
+    folder.good(&["round", "card.pm", "--times", "7"]);
+    assert_eq!(last().as_deref(), Some("1 tick is left to pay."));
+    let mut record = folder.read("card.pm");
+    record[7] = 1;
+    folder.write("card.pm", record);
+    assert_eq!(last(), None, "nothing is promised of a damaged card");
+}
+
+#[test]
 fn one_round_and_many_are_told_alike() {
     let (one, many) = (Folder::with_card("md5", 4, "optimal"), Folder::with_card("md5", 4, "optimal"));
     for _ in 0..20 {
@@ -129,6 +241,27 @@ fn each_refusal_has_its_status_and_its_sentence() {
     refused(2, "k is 4294967295", &start("1", "99999999999", "0", "seed.hex"));
     refused(3, "the schedule is 4", &start("aes", "20", "4", "short.hex"));
     refused(4, "the seed has 30 hex digits", &start("aes", "20", "optimal", "short.hex"));
+    let sold = |function, ticks, schedule, seed| {
+        ["start", "new.pm", "--function", function, "--ticks", ticks, "--schedule", schedule, "--seed-file", seed]
+    };
+    refused(1, "the function is 2", &sold("2", "0", "4", "short.hex"));
+    refused(3, "the schedule is 4", &sold("1", "0", "4", "short.hex"));
+    refused(10, "the number of ticks is 0. To do: give --ticks from 1 to 1048576", &sold("1", "0", "3", "short.hex"));
+    refused(10, "the number of ticks is 1048577", &sold("1", "1048577", "3", "seed.hex"));
+    refused(10, "the number of ticks is 4294967295", &sold("1", "99999999999", "3", "seed.hex"));
+    refused(4, "the seed has 30 hex digits", &sold("1", "300", "3", "short.hex"));
+    refused(10, "the number of ticks is 0", &["anchor", "--function", "0", "--ticks", "0", "--seed-file", "seed.hex"]);
+    refused(10, "the number of ticks is 0", &["enrol", "new.pm", "--function", "0", "--ticks", "0", "--anchor-file", "anchor.hex"]);
+    refused(10, "the number of ticks is 0", &["ride", "--function", "0", "--ticks", "0", "--seed-file", "seed.hex"]);
+    let rebuild = |size, number, seed, at, round| ["rebuild", "new.pm", "--function", "md5", size, number, "--seed-file", seed, at, round];
+    refused(2, "k is 21", &rebuild("--k", "21", "short.hex", "--round", "0"));
+    refused(2, "k is 4294967295", &rebuild("--k", "4294967295", "short.hex", "--paid", "0"));
+    refused(10, "the number of ticks is 0", &rebuild("--ticks", "0", "short.hex", "--round", "0"));
+    refused(5, "the round is 0, and for k = 4 it is from 1 to 32", &rebuild("--k", "4", "short.hex", "--round", "0"));
+    refused(5, "the round is 1025, and for k = 9 it is from 1 to 1024", &rebuild("--ticks", "300", "seed.hex", "--round", "1025"));
+    refused(5, "301 are said to be paid of 300 ticks", &rebuild("--ticks", "300", "seed.hex", "--paid", "301"));
+    refused(5, "4294967295 are said to be paid of 16 ticks", &rebuild("--k", "4", "seed.hex", "--paid", "4294967295"));
+    refused(4, "the seed has 30 hex digits", &rebuild("--k", "4", "short.hex", "--round", "32"));
     refused(2, "k is 21", &["positions", "--k", "21", "--schedule", "4", "--round", "0"]);
     refused(3, "the schedule is 4", &["positions", "--k", "20", "--schedule", "4", "--round", "0"]);
     refused(5, "the round is 0, and for k = 4 it is from 1 to 32", &["positions", "--k", "4", "--round", "0"]);

@@ -28,12 +28,20 @@ impl Folder {
         Folder(path)
     }
 
-    /// A folder with a seed, a card, its anchor and a post.
+    /// A folder with a seed, a card of 2^k ticks, its anchor and a post.
     pub fn with_card(function: &str, k: u32, schedule: &str) -> Folder {
+        Folder::with(function, ["--k", &k.to_string()], schedule)
+    }
+
+    /// The same, for a card of so many ticks.
+    pub fn with_ticks(function: &str, ticks: u32, schedule: &str) -> Folder {
+        Folder::with(function, ["--ticks", &ticks.to_string()], schedule)
+    }
+
+    fn with(function: &str, size: [&str; 2], schedule: &str) -> Folder {
         let folder = Folder::new();
         folder.write("seed.hex", format!("{SEED}\n"));
-        let k = k.to_string();
-        let common = ["--function", function, "--k", &k];
+        let common = ["--function", function, size[0], size[1]];
         folder.good(&[&["start", "card.pm", "--schedule", schedule, "--seed-file", "seed.hex"], &common[..]].concat());
         folder.good(&[&["anchor", "--out", "anchor.hex", "--seed-file", "seed.hex"], &common[..]].concat());
         folder.good(&[&["enrol", "post.pm", "--anchor-file", "anchor.hex"], &common[..]].concat());

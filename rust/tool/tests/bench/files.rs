@@ -62,7 +62,8 @@ fn a_file_in_use_is_left_alone() {
         lock
     });
     let start = ["start", "new.pm", "--function", "md5", "--k", "2", "--seed-file", "seed.hex"];
-    let calls: [&[&str]; 5] = [
+    let calls: [&[&str]; 6] = [
+        &["rebuild", "new.pm", "--function", "md5", "--k", "2", "--round", "4", "--seed-file", "seed.hex"],
         &["round", "card.pm"],
         &["offer", "post.pm", "--value-file", "seed.hex"],
         &["ride", "card.pm", "post.pm", "--save"],

@@ -2,8 +2,8 @@
 
 use crate::common::Folder;
 
-const COMMANDS: [&str; 12] =
-    ["start", "round", "positions", "anchor", "enrol", "offer", "settle", "list", "show", "ride", "picture", "demo"];
+const COMMANDS: [&str; 13] =
+    ["start", "rebuild", "round", "positions", "anchor", "enrol", "offer", "settle", "list", "show", "ride", "picture", "demo"];
 
 #[test]
 fn every_command_has_help_and_an_example_that_works_as_typed() {
@@ -27,6 +27,7 @@ fn every_command_has_help_and_an_example_that_works_as_typed() {
 fn bad_usage_is_2_with_the_line_of_help_that_it_fails() {
     let folder = Folder::with_card("md5", 2, "optimal");
     let start = ["start", "new.pm", "--k", "2", "--seed-file", "seed.hex"];
+    let rebuild = ["rebuild", "new.pm", "--function", "md5", "--k", "2", "--seed-file", "seed.hex"];
     let cases: &[(&[&str], &str)] = &[
         (&[], "usage: perchmellow COMMAND"),
         (&["nonsense"], "usage: perchmellow COMMAND"),
@@ -38,6 +39,23 @@ fn bad_usage_is_2_with_the_line_of_help_that_it_fails() {
         (&["start", "new.pm", "--function", "md5", "--k", "two", "--seed-file", "seed.hex"], "  --k K "),
         (&["start", "new.pm", "--function", "md5", "--k", "-2", "--seed-file", "seed.hex"], "  --k K "),
         (&["start", "new.pm", "--function", "md5", "--k", "2", "--seed-file", "seed.hex", "--schedule", "fast"], "  --schedule S "),
+        (&["start", "new.pm", "--function", "md5", "--seed-file", "seed.hex"], "--k or --ticks is wanted.\n  --k K "),
+        (
+            &[&start[..], &["--function", "md5", "--ticks", "4"]].concat(),
+            "--ticks cannot stand beside --k; give one of the two.\n  --ticks N ",
+        ),
+        (&["start", "new.pm", "--function", "md5", "--ticks", "many", "--seed-file", "seed.hex"], "  --ticks N "),
+        (&["anchor", "--function", "md5", "--seed-file", "seed.hex"], "--k or --ticks is wanted.\n  --k K "),
+        (&["enrol", "new.pm", "--function", "md5", "--anchor-file", "anchor.hex"], "--k or --ticks is wanted.\n  --k K "),
+        (
+            &["rebuild", "new.pm", "--function", "md5", "--ticks", "3", "--seed-file", "seed.hex"],
+            "--round or --paid is wanted.\n  --round R ",
+        ),
+        (
+            &[&rebuild[..], &["--round", "3", "--paid", "1"]].concat(),
+            "--paid cannot stand beside --round; give one of the two.\n  --paid P ",
+        ),
+        (&[&rebuild[..], &["--paid", "none"]].concat(), "  --paid P "),
         (&["round"], "round wants CARD.\nusage: perchmellow round CARD "),
         (&["round", "card.pm", "post.pm"], "usage: perchmellow round CARD "),
         (&["round", "card.pm", "--times"], "  --times N "),

@@ -24,6 +24,30 @@ fn a_whole_ride_settles() {
 }
 
 #[test]
+fn a_card_of_any_number_of_ticks_rides_to_its_end() {
+    for (function, schedule, ticks) in
+        [("md5", "optimal", "300"), ("aes", "speed-1", "1"), ("md5", "rushing", "129"), ("aes", "speed-2", "64")]
+    {
+        let all: u64 = ticks.parse().unwrap();
+        let folder = Folder::with_ticks(function, all as u32, schedule);
+        let seed = ["ride", "--function", function, "--schedule", schedule, "--ticks", ticks, "--seed-file", "seed.hex"];
+        for ride in [&seed[..], &["ride", "card.pm", "post.pm"]] {
+            let told = folder.answer(ride);
+            assert_eq!(number(&told, &["rounds", "ticks", "offered", "credited", "paid"]), [all; 5]);
+            assert_eq!(told["unpaid"].number(), all.next_power_of_two() - all);
+            assert_eq!((&told["settle"], told["refused"].list().len()), (&Value::Yes(true), 0));
+        }
+    }
+}
+
+#[test]
+fn beside_k_the_ticks_are_where_to_stop() {
+    let folder = Folder::with_card("md5", 1, "optimal");
+    let told = folder.answer(&["ride", "--function", "md5", "--k", "4", "--ticks", "3", "--seed-file", "seed.hex"]);
+    assert_eq!(number(&told, &["rounds", "ticks", "paid", "unpaid"]), [18, 3, 3, 13]);
+}
+
+#[test]
 fn missed_ticks_cost_by_the_gap() {
     let folder = Folder::with_card("md5", 4, "optimal");
     let ride = |gap: &str, miss: &str| {
