@@ -1,7 +1,8 @@
--- A card that is started and then called in any order: rounds that are run, rounds that are refused in between, and the record copied to
--- other buffers, as firmware does that keeps two records and a flag. After any list of such events the record is the one that the recursion
--- gives for the round that comes next, over the buffer that was lent last. So a further call says and writes what is demanded of that round
--- (crates/card/specs/Demands.antt), and a refused round leaves the card as if it had not been called. Assumes nothing.
+-- A card that is begun by a start, by a rebuild for any of its rounds or by a start of n ticks, and then called in any order: rounds that are
+-- run, rounds that are refused in between, and the record copied to other buffers, as firmware does that keeps two records and a flag. After
+-- any list of such events the record is the one that the recursion gives for the round that comes next, over the buffer that was lent last.
+-- So a further call says and writes what is demanded of that round (crates/card/specs/Demands.antt), and a refused round leaves the card as
+-- if it had not been called. Assumes nothing.
 use mathlib.Core.Path.{_≡_, refl, sym, ap, subst, _∙_}
 use mathlib.Core.Bool.{cond}
 use mathlib.Core.Logic.{_⊎_, inl, inr}
@@ -14,6 +15,7 @@ use lib.Dec.{leb}
 use lib.ListN.{length, take, drop}
 use lib.Pow.{pow-pos}
 use lib.Seq.{take-at}
+use Rattle.levels.specs.Levels.{level, firstRound, first-round-pays}
 use Rattle.lists.specs.Writing.{over}
 use Rattle.oneway.specs.Step.{width, step}
 use Rattle.oneway.specs.declared.Chain.{Chain}
@@ -23,13 +25,33 @@ use Rattle.refusals.specs.Numbers.{saidOf}
 use Rattle.refusals.specs.declared.Refusal.{Refusal}
 use Rattle.refusals.specs.declared.Refusal.the-variants.{WrongLength, Spent}
 use Rattle.card.specs.Record.{headAt, slotsSize, size, cardBytes}
-use Rattle.card.specs.Promises.{startCard, roundMustSay, roundCard, roundOut}
+use Rattle.card.specs.Promises.{startCard, rebuildCard, startTicksCard, roundMustSay, roundCard, roundOut}
 use Rattle.card.specs.Kept.{chain-holding, card-length}
 use Rattle.card.specs.Run.{Given, after, recordAt, spent-says, short-says, start-leaves, round-leaves, after-holds}
 use Rattle.card.specs.Demands.{preparing-round-says, preparing-round-writes-nothing, paying-round-says, paying-round-pays, optimal-paying-round-is-short}
+use Rattle.rebuilds.specs.Rebuilt.{rebuild-holds-its-positions}
+use Rattle.rebuilds.specs.Ticks.{start-ticks-is-a-rebuild}
 use Rattle.demands.specs.Unchanged.{round-says-refused-changes-nothing}
 
 -- ---- definitions
+
+-- the call that wrote the record: a start, a rebuild for a round, or a start of so many ticks
+pub data FirstCall : Type 0 where
+  started : FirstCall
+  rebuilt : ℕ → FirstCall
+  sold : ℕ → FirstCall
+
+-- the round that comes next after it
+unfoldable pub beginsAt : FirstCall → ℕ
+beginsAt started = 1
+beginsAt (rebuilt r) = r
+beginsAt (sold n) = firstRound n
+
+-- it is one for a card of 2^k ticks: a rebuild for a round from 1 to 2^(k+1), or a start of n ticks whose level is k
+pub data Allowed (k : ℕ) : FirstCall → Type 0 where
+  start : Allowed k started
+  rebuild : {r : ℕ} → 0 < r → r ≤ 2 ^ suc k → Allowed k (rebuilt r)
+  sale : {n : ℕ} → 0 < n → n ≤ 1048576 → level n ≡ k → Allowed k (sold n)
 
 -- a round is called with this out buffer, which may be too short; or the record's own bytes are copied to the front of this buffer
 pub data Event : Type 0 where
@@ -56,14 +78,20 @@ wideCalls function [] = 0
 wideCalls function (called out ∷ events) = counted function out + wideCalls function events
 wideCalls function (copied to ∷ events) = wideCalls function events
 
--- the round that comes next after a start and the events: each such call runs one, until round 2^(k+1) comes next, which none runs
-unfoldable pub nextRound : ℕ → ℕ → List Event → ℕ
-nextRound function k events = min (1 + wideCalls function events) (2 ^ suc k)
+-- the round that comes next after the first call and the events: each such call runs one, until round 2^(k+1) comes next, which none runs
+unfoldable pub nextRound : ℕ → ℕ → FirstCall → List Event → ℕ
+nextRound function k first events = min (beginsAt first + wideCalls function events) (2 ^ suc k)
 
 module _ (function k s : ℕ) where
   -- the bytes of the card's record
   abbrev pub recordSize : ℕ
   recordSize = size (headAt function k s 1)
+
+  -- what the first call leaves
+  unfoldable pub firstCard : List ℕ → List ℕ → FirstCall → List ℕ
+  firstCard seed lent started = startCard function k s seed lent
+  firstCard seed lent (rebuilt r) = rebuildCard function k s r seed lent
+  firstCard seed lent (sold n) = startTicksCard function n s seed lent
 
   -- what the events leave of the record `card`
   unfoldable pub cardAfter : List ℕ → List Event → List ℕ
@@ -126,7 +154,7 @@ module _ (function k s : ℕ) (seed lent : List ℕ) (given : Given function k s
   short-leaves : (out : List ℕ) (r : ℕ) → 0 < r → r < 2 ^ suc k → length out < width (chainOf function) → roundCard (kept r) out ≡ kept r
   short-leaves out r from less short = round-says-refused-changes-nothing WrongLength (kept r) out (short-says function k s seed lent given r out from less short) .0
 
--- ---- a list of events
+-- ---- the first call, and a list of events
 
 module _ (function k s : ℕ) (seed : List ℕ) where
   record Standing (card lent : List ℕ) (r : ℕ) : Type 0 where
@@ -134,6 +162,29 @@ module _ (function k s : ℕ) (seed : List ℕ) where
     upto : r ≤ 2 ^ suc k
     given : Given function k s seed lent
     holds : card ≡ recordAt function k s seed lent r
+
+  -- the first call leaves the record for its round
+  begun : (lent : List ℕ) → Given function k s seed lent → (first : FirstCall) → Allowed k first
+      → Standing (firstCard function k s seed lent first) lent (beginsAt first)
+  unfolding firstCard beginsAt
+  begun lent given started start =
+      record { from = omega arith; upto = omega (arith, pow-pos (suc k)); given = given; holds = start-leaves function k s seed lent given }
+  begun lent given (rebuilt r) (rebuild from upto) =
+      record { from = from; upto = upto; given = given; holds = rebuild-holds-its-positions function k s seed lent given r from upto }
+  begun lent given (sold n) (sale some few is) =
+      let round = first-round-pays n some few in
+      let from : 0 < firstRound n = omega (arith, round .0, pow-pos (level n)) in
+      let upto : firstRound n ≤ 2 ^ suc k = rw (← is) (omega (arith, round .1)) in
+      record {
+        from = from;
+        upto = upto;
+        given = given;
+        holds =
+            start-ticks-is-a-rebuild function n s seed lent
+            (record { known = given .known; some = some; few = few; scheduled = given .scheduled; seeded = given .seeded; long = rw is (given .long) })
+            ∙ ap (λ (j : ℕ). rebuildCard function j s (firstRound n) seed lent) is
+            ∙ rebuild-holds-its-positions function k s seed lent given (firstRound n) from upto;
+      }
 
   -- a call, and what it counts for whatever comes after it
   call-stands : (card lent : List ℕ) (r : ℕ) → Standing card lent r → (out : List ℕ)
@@ -185,26 +236,24 @@ module _ (function k s : ℕ) (seed : List ℕ) where
       events
       long
 
--- ---- a card that is started, and then any list of events
+-- ---- a card that is begun, and then any list of events
 
-module _ (function k s : ℕ) (seed lent : List ℕ) (given : Given function k s seed lent) (events : List Event) (long : LongEnough function k s events) where
-  -- the record that the start and the events leave, the buffer that was lent last, and the round that comes next
+module _ (function k s : ℕ) (seed lent : List ℕ) (given : Given function k s seed lent) (first : FirstCall) (allowed : Allowed k first)
+    (events : List Event) (long : LongEnough function k s events) where
+  -- the record that the first call and the events leave, the buffer that was lent last, and the round that comes next
   abbrev card : List ℕ
-  card = cardAfter function k s (startCard function k s seed lent) events
+  card = cardAfter function k s (firstCard function k s seed lent first) events
 
   abbrev last : List ℕ
   last = lentLast lent events
 
   abbrev r : ℕ
-  r = nextRound function k events
+  r = nextRound function k first events
 
   standing : Standing function k s seed card last r
   unfolding nextRound
   standing =
-      stands function k s seed (startCard function k s seed lent) lent 1
-      (record { from = omega arith; upto = omega (arith, pow-pos (suc k)); given = given; holds = start-leaves function k s seed lent given })
-      events
-      long
+      stands function k s seed (firstCard function k s seed lent first) lent (beginsAt first) (begun function k s seed lent given first allowed) events long
 
   pub next-is-a-round : (0 < r) × (r ≤ 2 ^ suc k)
   next-is-a-round = (standing .from, standing .upto)

@@ -1,35 +1,39 @@
--- Bytes behind a card's record are neither read nor written, by a start, by a round or by many rounds. The record may be damaged: all that is
--- asked is that its own bytes are as many as its own head says (`Whole`). Assumes nothing.
+-- Bytes behind a card's record are neither read nor written: by a round or by many rounds, by a start, a rebuild or a start of n ticks. The
+-- record that a round is lent may be damaged: all that is asked is that its own bytes are as many as its own head says (`Whole`). Assumes nothing.
 use mathlib.Core.Path.{_≡_, refl, sym, ap, _∙_}
-use mathlib.Core.Bool.{Bool, true, false, cond}
+use mathlib.Core.Bool.{Bool, true, false}
 use mathlib.Core.Logic.{_⊎_, inl, inr}
 use mathlib.Core.List.{List, [], _∷_, _++_}
-use Prim.Native.Nat.{ℕ, suc, _+_, _-_, _*_, _^_, _≤_, _<_, max}
-use native.Mathlib.Nat.{mul-le-mul-left}
+use Prim.Native.Nat.{ℕ, suc, _+_, _-_, _*_, _^_, _≤_, _<_}
+use native.Mathlib.Nat.{eq-zero-or-pos, mul-le-mul-left}
 use native.Mathlib.Omega.{arith}
-use borrow.Author.Tests.{le-ltb}
-use lib.Dec.{eqb}
+use borrow.Author.Tests.{lt-ltb, le-ltb, eq-eqb, ne-eqb}
 use lib.ListN.{length, take, drop, getD, length-append, length-drop, length-replicate, List·getD-append}
+use lib.Pow.{pow-pos}
 use lib.Seq.{drop-append-le}
+use Rattle.levels.specs.Levels.{allowed, level, firstRound, allowed-range, level-small, first-round-pays}
 use Rattle.lists.specs.Values.{values, joined, values-length, values-front}
 use Rattle.lists.specs.Wide.{Wide, wide-values, joined-cut}
 use Rattle.lists.specs.Writing.{over, over-length}
 use Rattle.oneway.specs.Laws.{step-length}
-use Rattle.oneway.specs.Step.{width, step}
+use Rattle.oneway.specs.Step.{known, width, step}
 use Rattle.pebbling.specs.Demands.{never-more-than-slots}
 use Rattle.pebbling.specs.HashesDone.{fair}
 use Rattle.pebbling.specs.Len.{lt-or-le}
 use Rattle.pebbling.specs.OnBytes.{round-wide, round-size}
-use Rattle.pebbling.specs.Recursion.{schedule, positions, round, slots}
+use Rattle.pebbling.specs.Recursion.{schedule, positions, round}
 use Rattle.pebbling.specs.RoundLength.{round-length}
+use Rattle.pebbling.specs.Slots.{slots-some}
+use Rattle.refusals.specs.declared.Refusal.{Refusal}
+use Rattle.refusals.specs.declared.Refusal.the-variants.{UnknownFunction, UnknownSchedule, BadRecord, BadTicks}
 use Rattle.card.specs.declared.Head.{Head}
 use Rattle.card.specs.declared.Inspected.{Inspected}
 use Rattle.card.specs.declared.Inspected.the-variants.{Refused, Card}
-use Rattle.card.specs.Record.{chainOf, widthOf, heldCount, heldSize, slotsSize, size, headBytes, filled, cardBytes, headOf, heldValues, freeSlots, laidOut}
-use Rattle.card.specs.Refused.{later, passing, numbers, roomFor, startJudged, inspectSlots, inspectOf, ready, roundJudged}
-use Rattle.card.specs.Promises.{first, judgedStartSays, judgedStartCard, startMustSay, startCard, judgedRoundSays, judgedRoundCard, judgedRoundOut, roundMustSay, roundCard, roundOut}
-use Rattle.card.specs.Sound.{Numbered, numbers-same, numbers-known, Startable, startable, Sound, runs}
-use Rattle.card.specs.Kept.{Holding, card-length, headed-back}
+use Rattle.card.specs.Record.{headAt, chainOf, widthOf, heldCount, heldSize, slotsSize, size, headBytes, filled, cardBytes, headOf, heldValues, freeSlots, laidOut}
+use Rattle.card.specs.Refused.{later, passing, numbers, roomFor, startJudged, inRange, rebuildJudged, startTicksJudged, inspectSlots, inspectOf, ready, roundJudged}
+use Rattle.card.specs.Promises.{judgedSays, judgedCard, startMustSay, startCard, elementsHeld, rebuildMustSay, rebuildCard, startTicksMustSay, startTicksCard, judgedRoundSays, judgedRoundCard, judgedRoundOut, roundMustSay, roundCard, roundOut}
+use Rattle.card.specs.Sound.{Numbered, numbers-same, numbers-known, numbers-pass, roomy, rebuild-judged, Sound, runs}
+use Rattle.card.specs.Kept.{Holding, chain-holding, card-length, headed-back}
 use Rattle.demands.specs.Front.{longer, part-front, over-front}
 
 -- ---- definitions
@@ -222,46 +226,129 @@ same-record-same-answer own rest₁ rest₂ out whole = (
   round-writes-the-same own rest₁ whole out ∙ sym (round-writes-the-same own rest₂ whole out),
 )
 
--- ---- start
+-- ---- start, rebuild and the start of n ticks
 
-some-slot : (s k : ℕ) → 1 ≤ slots s k
-unfolding slots
-some-slot s k = go (eqb s 1)
-  where
-    go : (b : Bool) → 1 ≤ cond b (max (k + 1) (2 * k - 2)) (k + 1)
-    go true = omega arith
-    go false = omega arith
+-- what the tests of such a call come to, whatever record it is lent: a refusal, or the last test, which is whether there is room for the
+-- record of its head; the values that the call lays then have slots
+data Tested (head : Head) (seed : List ℕ) (laid : Head → List (List ℕ)) (judged : List ℕ → Inspected) : Type 0 where
+  refused : (refusal : Refusal) → ((card : List ℕ) → judged card ≡ Refused refusal) → Tested head seed laid judged
+  roomAsked : (length seed ≡ widthOf head → length (cardBytes head (laid head)) ≤ size head)
+      → ((card : List ℕ) → judged card ≡ roomFor seed card head) → Tested head seed laid judged
 
-module _ (function k s : ℕ) (seed own rest : List ℕ) (long : size (first function k s) ≤ length own) where
-  start-judged-same : startJudged (first function k s) seed (own ++ rest) ≡ startJudged (first function k s) seed own
+module _ (head : Head) (seed : List ℕ) (laid : Head → List (List ℕ)) (judged : List ℕ → Inspected) (tested : Tested head seed laid judged)
+    (own rest : List ℕ) (long : size head ≤ length own) where
+  room-same : roomFor seed (own ++ rest) head ≡ roomFor seed own head
+  unfolding roomFor
+  room-same = rw (le-ltb (length (own ++ rest)) (size head) (longer own rest (size head) long), le-ltb (length own) (size head) long) refl
+
+  tests-same : judged (own ++ rest) ≡ judged own
+  tests-same = go tested
+    where
+      go : Tested head seed laid judged → judged (own ++ rest) ≡ judged own
+      go (refused x q) = q (own ++ rest) ∙ sym (q own)
+      go (roomAsked fits q) = q (own ++ rest) ∙ room-same ∙ sym (q own)
+
+  laid-the-same : judgedCard laid (own ++ rest) (judged (own ++ rest)) ≡ judgedCard laid own (judged own) ++ rest
+  laid-the-same = rw tests-same (go tested)
+    where
+      by : (length seed ≡ widthOf head → length (cardBytes head (laid head)) ≤ size head) → (seen : Inspected) → roomFor seed own head ≡ seen
+          → judgedCard laid (own ++ rest) seen ≡ judgedCard laid own seen ++ rest
+      by fits (Refused x) q = refl
+      by fits (Card g) q =
+          let ok = roomy head seed own g q in
+          rw (← ok .0) (over-front own rest (cardBytes head (laid head)) (omega (arith, fits (ok .1 .seeded), long)))
+
+      go : Tested head seed laid judged → judgedCard laid (own ++ rest) (judged own) ≡ judgedCard laid own (judged own) ++ rest
+      go (refused x q) = rw (q own) refl
+      go (roomAsked fits q) = rw (q own) (by fits (roomFor seed own head) refl)
+
+module _ (function k s : ℕ) (seed : List ℕ) where
+  abbrev startedHead : Head
+  startedHead = headAt function k s 1
+
+  start-tested : Tested startedHead seed (λ h. seed ∷ []) (startJudged startedHead seed)
   unfolding startJudged
-  start-judged-same = go (numbers (first function k s)) refl
+  start-tested = go (numbers startedHead) refl
     where
-      room-same : roomFor seed (own ++ rest) (first function k s) ≡ roomFor seed own (first function k s)
-      room-same =
-          let h = size (first function k s) in
-          unfold roomFor in
-          rw (le-ltb (length (own ++ rest)) h (longer own rest h long), le-ltb (length own) h long) refl
+      -- the seed has a slot
+      fits : length seed ≡ widthOf startedHead → length (cardBytes startedHead (seed ∷ [])) ≤ size startedHead
+      fits e =
+          let some = mul-le-mul-left (widthOf startedHead) (slots-some s k) in
+          unfold cardBytes headBytes filled joined size slotsSize in
+          simp (length-append, length-replicate) (omega (arith, some, e))
 
-      go : (seen : Inspected) → numbers (first function k s) ≡ seen → passing seen (roomFor seed (own ++ rest)) ≡ passing seen (roomFor seed own)
-      go (Refused x) q = refl
-      go (Card g) q = rw (← numbers-same (first function k s) g q) room-same
+      go : (seen : Inspected) → numbers startedHead ≡ seen → Tested startedHead seed (λ h. seed ∷ []) (startJudged startedHead seed)
+      go (Refused x) q = refused x (λ card. rw q refl)
+      go (Card g) q = roomAsked fits (λ card. rw (q, ← numbers-same startedHead g q) refl)
 
-  pub start-says-the-same : startMustSay function k s seed (own ++ rest) ≡ startMustSay function k s seed own
-  unfolding startMustSay
-  start-says-the-same = ap judgedStartSays start-judged-same
+  module _ (own rest : List ℕ) (long : size (headAt function k s 1) ≤ length own) where
+    pub start-says-the-same : startMustSay function k s seed (own ++ rest) ≡ startMustSay function k s seed own
+    unfolding startMustSay
+    start-says-the-same = ap judgedSays (tests-same startedHead seed _ _ start-tested own rest long)
 
-  -- the record of round 1 has a record's bytes
-  started-within : (head : Head) → Startable seed own head → length (cardBytes head (seed ∷ [])) ≤ length own
-  unfolding cardBytes headBytes filled joined size slotsSize
-  started-within head ok =
-      let fits = mul-le-mul-left (widthOf head) (some-slot (head .schedule) (head .k)) in
-      simp (length-append, length-replicate) (omega (arith, fits, ok .seeded, ok .long))
+    pub start-leaves-the-same : startCard function k s seed (own ++ rest) ≡ startCard function k s seed own ++ rest
+    unfolding startCard
+    start-leaves-the-same = laid-the-same startedHead seed _ _ start-tested own rest long
 
-  pub start-leaves-the-same : startCard function k s seed (own ++ rest) ≡ startCard function k s seed own ++ rest
-  unfolding startCard
-  start-leaves-the-same = rw start-judged-same (go (startJudged (first function k s) seed own) refl)
+-- the elements held before a round have slots
+held-fit : (head : Head) (seed : List ℕ) → Numbered head → 0 < head .round .0 → head .round .0 ≤ 2 ^ suc (head .k)
+    → length seed ≡ widthOf head → length (cardBytes head (elementsHeld seed head)) ≤ size head
+held-fit head seed n from upto e =
+    omega (arith, card-length head (elementsHeld seed head) n from upto (chain-holding head seed (n .schedule) e))
+
+module _ (function k s r : ℕ) (seed : List ℕ) where
+  abbrev rebuiltHead : Head
+  rebuiltHead = headAt function k s r
+
+  rebuild-tested : Tested rebuiltHead seed (elementsHeld seed) (rebuildJudged rebuiltHead seed)
+  unfolding rebuildJudged inRange
+  rebuild-tested = go (numbers rebuiltHead) refl
     where
-      go : (seen : Inspected) → startJudged (first function k s) seed own ≡ seen → judgedStartCard seed (own ++ rest) seen ≡ judgedStartCard seed own seen ++ rest
-      go (Refused x) q = refl
-      go (Card head) q = over-front own rest (cardBytes head (seed ∷ [])) (started-within head (startable (first function k s) seed own head q))
+      by : Numbered rebuiltHead → (r ≡ 0) ⊎ (0 < r) → (2 ^ suc k < r) ⊎ (r ≤ 2 ^ suc k)
+          → Tested rebuiltHead seed (elementsHeld seed) (rebuildJudged rebuiltHead seed)
+      by n (inl none) upto = refused BadRecord (λ card. rw (numbers-pass rebuiltHead n, eq-eqb r 0 none) refl)
+      by n (inr from) (inl beyond) =
+          refused BadRecord (λ card. rw (numbers-pass rebuiltHead n, ne-eqb r 0 (λ e. omega arith), lt-ltb (2 ^ suc k) r beyond) refl)
+      by n (inr from) (inr upto) = roomAsked (held-fit rebuiltHead seed n from upto) (λ card. rebuild-judged rebuiltHead seed card n from upto)
+
+      go : (seen : Inspected) → numbers rebuiltHead ≡ seen → Tested rebuiltHead seed (elementsHeld seed) (rebuildJudged rebuiltHead seed)
+      go (Refused x) q = refused x (λ card. rw q refl)
+      go (Card g) q = by (rw (numbers-same rebuiltHead g q) (numbers-known rebuiltHead g q)) (eq-zero-or-pos r) (lt-or-le (2 ^ suc k) r)
+
+  module _ (own rest : List ℕ) (long : size (headAt function k s 1) ≤ length own) where
+    pub rebuild-says-the-same : rebuildMustSay function k s r seed (own ++ rest) ≡ rebuildMustSay function k s r seed own
+    unfolding rebuildMustSay size slotsSize
+    rebuild-says-the-same = ap judgedSays (tests-same rebuiltHead seed _ _ rebuild-tested own rest long)
+
+    pub rebuild-leaves-the-same : rebuildCard function k s r seed (own ++ rest) ≡ rebuildCard function k s r seed own ++ rest
+    unfolding rebuildCard size slotsSize
+    rebuild-leaves-the-same = laid-the-same rebuiltHead seed _ _ rebuild-tested own rest long
+
+module _ (function n s : ℕ) (seed : List ℕ) where
+  abbrev soldHead : Head
+  soldHead = headAt function (level n) s (firstRound n)
+
+  start-ticks-tested : Tested soldHead seed (elementsHeld seed) (startTicksJudged function n s seed)
+  unfolding startTicksJudged
+  start-ticks-tested = go (known function) refl (lt-or-le 3 s) (allowed n) refl
+    where
+      go : (x : Bool) → known function ≡ x → (3 < s) ⊎ (s ≤ 3) → (y : Bool) → allowed n ≡ y
+          → Tested soldHead seed (elementsHeld seed) (startTicksJudged function n s seed)
+      go false p b y q = refused UnknownFunction (λ card. rw p refl)
+      go true p (inl b) y q = refused UnknownSchedule (λ card. rw (p, lt-ltb 3 s b) refl)
+      go true p (inr b) false q = refused BadTicks (λ card. rw (p, le-ltb 3 s b, q) refl)
+      go true p (inr b) true q =
+          let range = allowed-range n q in
+          let first = first-round-pays n (range .0) (range .1) in
+          roomAsked
+          (held-fit soldHead seed (record { known = p; small = level-small n (range .1); schedule = b }) (omega (arith, first .0, pow-pos (level n))) (omega (arith, first .1)))
+          (λ card. rw (p, le-ltb 3 s b, q) refl)
+
+  module _ (own rest : List ℕ) (long : size (headAt function (level n) s 1) ≤ length own) where
+    pub start-ticks-says-the-same : startTicksMustSay function n s seed (own ++ rest) ≡ startTicksMustSay function n s seed own
+    unfolding startTicksMustSay size slotsSize
+    start-ticks-says-the-same = ap judgedSays (tests-same soldHead seed _ _ start-ticks-tested own rest long)
+
+    pub start-ticks-leaves-the-same : startTicksCard function n s seed (own ++ rest) ≡ startTicksCard function n s seed own ++ rest
+    unfolding startTicksCard size slotsSize
+    start-ticks-leaves-the-same = laid-the-same soldHead seed _ _ start-ticks-tested own rest long

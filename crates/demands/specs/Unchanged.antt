@@ -13,10 +13,12 @@ use Rattle.pebbling.specs.declared.PositionsAnswer.{PositionsAnswer}
 use Rattle.pebbling.specs.declared.PositionsAnswer.the-variants.{Listed, Refused as NoList}
 use Rattle.refusals.specs.Numbers.{saidOf, not-refused, number-not-0}
 use Rattle.refusals.specs.declared.Refusal.{Refusal}
-use Rattle.card.specs.Promises.{tickOrQuiet, judgedStartSays, judgedStartCard, startMustSay, startCard, Started, judgedRoundSays, judgedRoundCard, judgedRoundOut, roundMustSay, roundCard, roundOut, Rounded, answerSays, judgedAnchorOut, anchorMustSay, anchorOut, Anchored, first}
-use Rattle.card.specs.Refused.{startJudged, roundJudged, anchorJudged}
+use Rattle.card.specs.Promises.{tickOrQuiet, judgedSays, judgedCard, startMustSay, startCard, Started, rebuildMustSay, rebuildCard, Rebuilt, startTicksMustSay, startTicksCard, StartedTicks, judgedRoundSays, judgedRoundCard, judgedRoundOut, roundMustSay, roundCard, roundOut, Rounded, answerSays, judgedElement, anchorMustSay, anchorOut, Anchored, anchorTicksMustSay, anchorTicksOut, AnchoredTicks}
+use Rattle.card.specs.Record.{headAt}
+use Rattle.card.specs.Refused.{startJudged, rebuildJudged, startTicksJudged, roundJudged, anchorJudged, anchorTicksJudged}
 use Rattle.card.specs.declared.Answer.{Answer}
 use Rattle.card.specs.declared.Answer.the-variants.{Done, Refused}
+use Rattle.card.specs.declared.Head.{Head}
 use Rattle.card.specs.declared.Inspected.{Inspected}
 use Rattle.card.specs.declared.Inspected.the-variants.{Card, Refused as TurnedDown}
 use Rattle.card.specs.declared.RoundAnswer.{RoundAnswer}
@@ -41,15 +43,29 @@ not-a-round refusal [] hashes e = not-refused refusal _ e
 not-a-round refusal (p ∷ ps) hashes e = not-refused refusal _ e
 
 module _ (refusal : Refusal) where
+  -- start, rebuild and the start of n ticks, whatever values each would lay
+  judged-refused : (laid : Head → List (List ℕ)) (card card′ : List ℕ) (seen : Inspected)
+      → saidOf refusal ≡ judgedSays seen → card′ ≡ judgedCard laid card seen → card′ ≡ card
+  judged-refused laid card card′ (TurnedDown x) says leaves = leaves
+  judged-refused laid card card′ (Card head) says leaves = absurd (not-refused refusal _ says)
+
   pub start-refused-changes-nothing : (function k schedule : ℕ) (seed card card′ : List ℕ)
       → Started function k schedule seed card (Refused refusal) card′ → card′ ≡ card
   unfolding startMustSay startCard
   start-refused-changes-nothing function k schedule seed card card′ kept =
-      go (startJudged (first function k schedule) seed card) (kept .says) (kept .leaves)
-    where
-      go : (seen : Inspected) → saidOf refusal ≡ judgedStartSays seen → card′ ≡ judgedStartCard seed card seen → card′ ≡ card
-      go (TurnedDown x) says leaves = leaves
-      go (Card head) says leaves = absurd (not-refused refusal _ says)
+      judged-refused _ card card′ (startJudged (headAt function k schedule 1) seed card) (kept .says) (kept .leaves)
+
+  pub rebuild-refused-changes-nothing : (function k schedule r : ℕ) (seed card card′ : List ℕ)
+      → Rebuilt function k schedule r seed card (Refused refusal) card′ → card′ ≡ card
+  unfolding rebuildMustSay rebuildCard
+  rebuild-refused-changes-nothing function k schedule r seed card card′ kept =
+      judged-refused _ card card′ (rebuildJudged (headAt function k schedule r) seed card) (kept .says) (kept .leaves)
+
+  pub start-ticks-refused-changes-nothing : (function n schedule : ℕ) (seed card card′ : List ℕ)
+      → StartedTicks function n schedule seed card (Refused refusal) card′ → card′ ≡ card
+  unfolding startTicksMustSay startTicksCard
+  start-ticks-refused-changes-nothing function n schedule seed card card′ kept =
+      judged-refused _ card card′ (startTicksJudged function n schedule seed card) (kept .says) (kept .leaves)
 
   -- of a round by what it must say, and so by its answer
   pub round-says-refused-changes-nothing : (card out : List ℕ) → roundMustSay card out ≡ saidOf refusal → (roundCard card out ≡ card) × (roundOut card out ≡ out)
@@ -66,13 +82,21 @@ module _ (refusal : Refusal) where
       let same = round-says-refused-changes-nothing card out (sym (kept .says)) in
       (kept .leaves ∙ same .0, kept .writes ∙ same .1)
 
+  -- both anchors, whichever element each would write
+  element-refused : (c : Chain) (n : ℕ) (seed out out′ : List ℕ) (answer : Answer)
+      → saidOf refusal ≡ answerSays answer → out′ ≡ judgedElement c n seed out answer → out′ ≡ out
+  element-refused c n seed out out′ Done says writes = absurd (not-refused refusal _ says)
+  element-refused c n seed out out′ (Refused x) says writes = writes
+
   pub anchor-refused-changes-nothing : (c : Chain) (k : ℕ) (seed out out′ : List ℕ) → Anchored c k seed out (Refused refusal) out′ → out′ ≡ out
   unfolding anchorMustSay anchorOut
-  anchor-refused-changes-nothing c k seed out out′ kept = go (anchorJudged c k seed out) (kept .says) (kept .writes)
-    where
-      go : (answer : Answer) → saidOf refusal ≡ answerSays answer → out′ ≡ judgedAnchorOut c k seed out answer → out′ ≡ out
-      go Done says writes = absurd (not-refused refusal _ says)
-      go (Refused x) says writes = writes
+  anchor-refused-changes-nothing c k seed out out′ kept =
+      element-refused c (2 ^ k) seed out out′ (anchorJudged c k seed out) (kept .says) (kept .writes)
+
+  pub anchor-ticks-refused-changes-nothing : (c : Chain) (n : ℕ) (seed out out′ : List ℕ) → AnchoredTicks c n seed out (Refused refusal) out′ → out′ ≡ out
+  unfolding anchorTicksMustSay anchorTicksOut
+  anchor-ticks-refused-changes-nothing c n seed out out′ kept =
+      element-refused c n seed out out′ (anchorTicksJudged c n seed out) (kept .says) (kept .writes)
 
   pub positions-refused-changes-nothing : (k schedule round : ℕ) (list list′ : List ℕ) → Positioned k schedule round list (NoList refusal) list′ → list′ ≡ list
   unfolding positionsList
@@ -146,6 +170,16 @@ module _ (word : ℕ) (refused : numberIn word ≡ 0 → ⊥) where
   start-word-refused-changes-nothing function k schedule seed card card′ call =
       through-the-word doneWord Refused done-kinds _ _ (λ x kept. start-refused-changes-nothing x function k schedule seed card card′ kept) word call refused
 
+  pub rebuild-word-refused-changes-nothing : (function k schedule r : ℕ) (seed card card′ : List ℕ)
+      → Exported doneWord (λ a. Rebuilt function k schedule r seed card a card′) word → card′ ≡ card
+  rebuild-word-refused-changes-nothing function k schedule r seed card card′ call =
+      through-the-word doneWord Refused done-kinds _ _ (λ x kept. rebuild-refused-changes-nothing x function k schedule r seed card card′ kept) word call refused
+
+  pub start-ticks-word-refused-changes-nothing : (function n schedule : ℕ) (seed card card′ : List ℕ)
+      → Exported doneWord (λ a. StartedTicks function n schedule seed card a card′) word → card′ ≡ card
+  start-ticks-word-refused-changes-nothing function n schedule seed card card′ call =
+      through-the-word doneWord Refused done-kinds _ _ (λ x kept. start-ticks-refused-changes-nothing x function n schedule seed card card′ kept) word call refused
+
   pub round-word-refused-changes-nothing : (card out card′ out′ : List ℕ)
       → Exported roundWord (λ a. Rounded card out a card′ out′) word → (card′ ≡ card) × (out′ ≡ out)
   round-word-refused-changes-nothing card out card′ out′ call =
@@ -155,6 +189,11 @@ module _ (word : ℕ) (refused : numberIn word ≡ 0 → ⊥) where
       → Exported doneWord (λ a. Anchored c k seed out a out′) word → out′ ≡ out
   anchor-word-refused-changes-nothing c k seed out out′ call =
       through-the-word doneWord Refused done-kinds _ _ (λ x kept. anchor-refused-changes-nothing x c k seed out out′ kept) word call refused
+
+  pub anchor-ticks-word-refused-changes-nothing : (c : Chain) (n : ℕ) (seed out out′ : List ℕ)
+      → Exported doneWord (λ a. AnchoredTicks c n seed out a out′) word → out′ ≡ out
+  anchor-ticks-word-refused-changes-nothing c n seed out out′ call =
+      through-the-word doneWord Refused done-kinds _ _ (λ x kept. anchor-ticks-refused-changes-nothing x c n seed out out′ kept) word call refused
 
   pub positions-word-refused-changes-nothing : (k schedule round : ℕ) (list list′ : List ℕ)
       → Exported positionsWord (λ a. Positioned k schedule round list a list′) word → list′ ≡ list
