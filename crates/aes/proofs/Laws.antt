@@ -1,5 +1,5 @@
 -- Laws of the rounds: small products in the field, and the rounds one by one. Assumes nothing.
-use mathlib.Core.Path.{_≡_, refl, ap, ap₂}
+use mathlib.Core.Path.{_≡_, refl, ap₂}
 use mathlib.Core.List.{List}
 use Prim.Native.Nat.{ℕ, zero, suc, _+_, _-_, _≤_}
 use native.Mathlib.Nat.{zero-mul, one-mul, not-suc-le-zero}

@@ -3,7 +3,7 @@
 use mathlib.Core.Path.{_≡_, refl, sym, ap, _∙_}
 use mathlib.Core.Bool.{Bool, true, false, cond, _||_, not, true≢false}
 use mathlib.Core.Logic.{_⊎_, inl, inr}
-use mathlib.Core.List.{List, [], _∷_, _++_, map}
+use mathlib.Core.List.{List, [], _∷_, _++_}
 use Prim.Native.Nat.{ℕ, suc, _+_, _-_, _*_, _^_, _≤_, _<_}
 use native.Mathlib.Nat.{eq-zero-or-pos, mul-le-mul-left}
 use native.Mathlib.Omega.{arith}
@@ -37,7 +37,7 @@ use Rattle.card.specs.declared.Answer.{Answer}
 use Rattle.card.specs.declared.Answer.the-variants.{Done, Refused as NotDone}
 use Rattle.card.specs.Record.{headAt, widthOf, slotsSize, size, headBytes, filled, cardBytes}
 use Rattle.card.specs.Refused.{passing, numbers, roomFor, startJudged, inRange, rebuildJudged, startTicksJudged}
-use Rattle.card.specs.Promises.{answerSays, judgedSays, judgedCard, startMustSay, startCard, Started, elementsHeld, rebuildMustSay, rebuildCard, Rebuilt, startTicksMustSay, startTicksCard, StartedTicks}
+use Rattle.card.specs.Promises.{judgedSays, judgedCard, startMustSay, startCard, Started, elementsHeld, rebuildMustSay, rebuildCard, Rebuilt, startTicksMustSay, startTicksCard, StartedTicks}
 use Rattle.card.specs.Sound.{Numbered, roomy, rebuild-judged}
 use Rattle.card.specs.Steps.{Puttable, elementsAt, Beginning, Layable, Begun}
 use Rattle.card.proofs.ReadLaws.{first-slot}

@@ -21,7 +21,7 @@ use Rattle.pebbling.specs.Recursion.{schedule, positions, chain}
 use Rattle.card.specs.declared.Head.{Head}
 use Rattle.card.specs.declared.Inspected.the-variants.{Card}
 use Rattle.card.specs.Record.{chainOf, widthOf, heldCount, heldSize, slotsSize, size, headBytes, filled, cardBytes, headOf, heldValues, freeSlots, allZero, laidOut}
-use Rattle.card.specs.Refused.{numbers, inspectSlots, inspectOf}
+use Rattle.card.specs.Refused.{inspectSlots, inspectOf}
 use Rattle.card.specs.Sound.{Numbered, numbers-pass}
 
 -- ---- lists

@@ -13,7 +13,7 @@ use Rattle.lists.specs.Writing.{over}
 use Rattle.oneway.specs.Step.{known, width, step}
 use Rattle.oneway.specs.declared.Chain.{Chain}
 use Rattle.pebbling.specs.Demands.{round-moves-the-chain, card-holds-the-chain}
-use Rattle.pebbling.specs.Recursion.{schedule, positions, tick, round, before, chain}
+use Rattle.pebbling.specs.Recursion.{schedule, positions, tick, before, chain}
 use Rattle.refusals.specs.Numbers.{saidOf}
 use Rattle.refusals.specs.declared.Refusal.the-variants.{WrongLength, Spent}
 use Rattle.card.specs.declared.Head.{Head}

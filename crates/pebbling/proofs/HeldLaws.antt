@@ -1,12 +1,12 @@
 -- What the count of the values held comes to, over plain numbers: the split of the pebblers that run, and the room of a card.
 -- Assumes nothing.
 use mathlib.Core.Path.{_≡_, sym, ap, _∙_}
-use Prim.Native.Nat.{ℕ, zero, suc, _+_, _-_, _*_, _^_, _≤_, _<_}
+use Prim.Native.Nat.{ℕ, zero, suc, _+_, _-_, _^_, _≤_, _<_}
 use native.Mathlib.Omega.{arith}
 use lib.ListN.{length, length-append}
 use Rattle.pebbling.specs.Demands.{never-more-than-slots}
 use Rattle.pebbling.specs.Promises.{Power, Done, Holds, Aside}
-use Rattle.pebbling.specs.Recursion.{schedule, done, held, positions, slots}
+use Rattle.pebbling.specs.Recursion.{schedule, done, held, positions}
 use Rattle.pebbling.specs.Slots.{slots-small}
 use Rattle.pebbling.specs.SideBySide.{positions-itself, positions-children, sidePositions, sidePositions-both, sidePositions-last, sidePositions-late, sideHeldCount, side-length}
 

@@ -8,18 +8,7 @@ use native.Mathlib.Nat.{add-suc, eq-or-lt-of-le}
 use native.Mathlib.Omega.{arith}
 use lib.ListN.{length, take, drop, length-append, length-drop}
 use Rattle.pebbling.specs.Recursion.{done, held, positions, work, round}
-use Rattle.pebbling.specs.SideBySide.{
-  sideHeldCount,
-  sidePositions-late,
-  sidePositions-last,
-  positions-itself,
-  positions-children,
-  positions-split,
-  positions-length,
-  positions-ended,
-  work-split,
-  work-ended,
-}
+use Rattle.pebbling.specs.SideBySide.{sideHeldCount, sidePositions-last, positions-itself, positions-children, positions-split, positions-length, positions-ended, work-split, work-ended}
 use Rattle.pebbling.specs.Turns.{round-prepare, round-out, round-children, sideRound, sideRound-both, sideRound-last, sideRound-late}
 
 module _ (t : ℕ → ℕ → ℕ) (j n : ℕ) (0<n : 0 < n) where

@@ -45,7 +45,8 @@ pub fn time(work: impl FnOnce()) -> f64 {
 pub fn machine() -> String {
     let about = std::fs::read_to_string("/proc/cpuinfo").unwrap_or_default();
     let models: Vec<&str> = about.lines().filter_map(|line| line.strip_prefix("model name")?.split(": ").nth(1)).collect();
-    let mut parts = vec![models.first().unwrap_or(&"An unknown processor").to_string()];
+    let unnamed = format!("A processor of the kind {}", std::env::consts::ARCH);
+    let mut parts = vec![models.first().map_or(unnamed, |model| model.to_string())];
     if let Ok(cores) = std::thread::available_parallelism() {
         parts.push(format!("{cores} cores"));
     }
