@@ -1,14 +1,14 @@
 -- What the functions beneath the calls ask and promise. Assumes nothing.
 use mathlib.Core.Path.{_≡_}
-use mathlib.Core.List.{List, map}
+use mathlib.Core.List.{List}
 use Prim.Native.Nat.{ℕ, suc, _+_, _*_, _^_, _≤_, _<_}
 use lib.ListN.{length}
 use Rattle.lists.specs.Values.{values, joined}
 use Rattle.lists.specs.Writing.{over}
-use Rattle.oneway.specs.Step.{step}
 use Rattle.oneway.specs.declared.Chain.{Chain}
 use Rattle.pebbling.specs.Falling.{Falling}
-use Rattle.pebbling.specs.Recursion.{putOut, tick, chain, schedule as hashesOf}
+use Rattle.pebbling.specs.Recursion.{putOut, tick, schedule as hashesOf}
+use Rattle.refill.specs.Refill.{elements}
 use Rattle.card.specs.declared.Head.{Head}
 use Rattle.card.specs.declared.Answer.{Answer}
 use Rattle.card.specs.declared.RoundAnswer.{RoundAnswer}
@@ -24,9 +24,9 @@ pub record Puttable (head : Head) (slots card : List ℕ) : Type 0 where
   pub k : head .k ≤ 255
   pub room : 16 + length slots ≤ length card
 
--- the chain's values at some positions
+-- the values of the head's chain at some positions
 abbrev pub elementsAt : List ℕ → List ℕ → Head → List (List ℕ)
-elementsAt held seed head = map (chain (step (chainOf head)) seed) held
+elementsAt held seed head = elements (chainOf head) seed held
 
 -- a head whose numbers are known, with positions that fall and have room in its slots
 pub record Beginning (head : Head) (held : List ℕ) : Type 0 where

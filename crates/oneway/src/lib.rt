@@ -18,6 +18,9 @@ pub fn known(function: u32) -> bool
     function < 2
 }
 
+// The widest value that any function has.
+pub const WIDEST: usize = 16;
+
 // How many bytes a value of the chain has.
 pub fn width(chain: Chain) -> usize
     ensures { λ w. ⌜ w ≡ widthOf chain ⌝ }

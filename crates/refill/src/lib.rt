@@ -10,9 +10,6 @@ ghost use Rattle.pebbling.specs.Recursion.{chain as element};
 ghost use Rattle.refill.specs.Refill.{Fillable, Refilled};
 use oneway::Chain;
 
-// The widest value of any function.
-const WIDEST: usize = 16;
-
 // On along the chain from one position to another, in place. Answers the position reached. This is the only place where a rebuild
 // applies the chain's function, and the position goes up by one there and nowhere else: so it is also the count of the hashes done
 // since the seed.
@@ -62,7 +59,7 @@ pub fn refill(chain: Chain, seed: &[u8], positions: &[u32], slots: &mut [u8]) ->
     ensures { λ hashes. ⌜ Refilled chain (now (seed .entry)) (now (positions .entry)) (now (slots .entry)) hashes (now (slots .exit)) ⌝ }
 {
     let w = oneway::width(chain);
-    let mut value = [0u8; WIDEST];
+    let mut value = [0u8; oneway::WIDEST];
     records::copy(seed, &mut value);
     fill(chain, positions, &mut value[..w], slots)
 }
