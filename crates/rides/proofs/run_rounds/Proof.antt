@@ -13,8 +13,8 @@ abbrev μ-loop : tie.MeasureT-loop
 loop-holds : tie.Need-loop-holds Inv-loop μ-loop
 loop-holds c = search needs
 
-add-next : tie.Need-add-next Inv-loop μ-loop
-add-next c = search needs
+next-round-requires : tie.Need-next-round-requires Inv-loop μ-loop
+next-round-requires c κs = search needs
 
 count-held-requires : tie.Need-count-held-requires Inv-loop μ-loop
 count-held-requires c κs = search needs
@@ -68,7 +68,7 @@ run-rounds-spec =
     Inv-loop
     μ-loop
     loop-holds
-    add-next
+    next-round-requires
     count-held-requires
     enum-known-counted
     enum-told
