@@ -188,14 +188,18 @@ fn post_agrees(call: &[u8], answer: post::Answer) -> bool {
     }
 }
 
-// What settle says of the post's value held and its ticks paid.
-fn settle(function: u32, k: u32, anchor: &[u8; 16], post: [u8; POST]) {
-    let paid = records::word(&post[4..8]);
-    match post::settle(function, k, anchor, &post[24..40], paid) {
+fn print_settled(answer: SettleAnswer) {
+    match answer {
         SettleAnswer::Refused(why) => says(b"settle", why),
         SettleAnswer::Yes => print(b", settle says yes"),
         SettleAnswer::No => print(b", settle says no"),
     }
+}
+
+// What settle says of the post's value held and its ticks paid.
+fn settle(function: u32, k: u32, anchor: &[u8; 16], post: [u8; POST]) {
+    let paid = records::word(&post[4..8]);
+    print_settled(post::settle(function, k, anchor, &post[24..40], paid));
     print(b" to ");
     print_number(paid);
     print(b" paid");
@@ -231,18 +235,10 @@ fn print_head(function: u32, schedule: u32, name: &[u8], n: u32) {
     print_number(n);
 }
 
-// A post is enrolled for a card and, if this and all before it were agreed to, the ride is run.
-fn run_ride(
-    function: u32,
-    schedule: u32,
-    k: u32,
-    agreed: bool,
-    anchor: &[u8; 16],
-    card: &mut [u8; CARD],
-) {
+// A post is enrolled for a card, and the ride is run.
+fn run_ride(function: u32, schedule: u32, k: u32, anchor: &[u8; 16], card: &mut [u8; CARD]) {
     let mut post = [0u8; POST];
-    let enrolled = post_agrees(b"enrol", post::enrol(function, k, anchor, &mut post));
-    if agreed && enrolled {
+    if post_agrees(b"enrol", post::enrol(function, k, anchor, &mut post)) {
         print_figures(run_rounds(k, schedule, card, &mut post));
         settle(function, k, anchor, post);
         offer_again(post);
@@ -255,41 +251,38 @@ fn run(function: u32, schedule: u32, k: u32) {
     let mut anchor = [0u8; 16];
     let mut card = [0u8; CARD];
     print_head(function, schedule, b", k = ", k);
-    let anchored = card_agrees(b"anchor", card::anchor(function, k, &seed, &mut anchor));
-    let started = card_agrees(
+    card_agrees(b"anchor", card::anchor(function, k, &seed, &mut anchor));
+    card_agrees(
         b"start",
         card::start(function, k, schedule, &seed, &mut card),
     );
-    run_ride(
-        function,
-        schedule,
-        k,
-        anchored && started,
-        &anchor,
-        &mut card,
-    );
+    run_ride(function, schedule, k, &anchor, &mut card);
     print(b"\n");
 }
 
-// A card of n ticks, and a post for the k that stands in its record.
+// The ride of a card of n ticks, with a post for the k that stands in the card's record.
+fn run_level(function: u32, schedule: u32, anchor: &[u8; 16], card: &mut [u8; CARD]) {
+    let k = records::wide(card[4]);
+    print(b", k = ");
+    print_number(k);
+    run_ride(function, schedule, k, anchor, card);
+}
+
+// A card of n ticks. One that is refused has no k to ride with.
 fn run_ticks(function: u32, schedule: u32, ticks: u32) {
     let seed = SEED;
     let mut anchor = [0u8; 16];
     let mut card = [0u8; CARD];
     print_head(function, schedule, b", ticks = ", ticks);
-    let anchored = card_agrees(
+    card_agrees(
         b"anchor",
         card::anchor_ticks(function, ticks, &seed, &mut anchor),
     );
-    let started = card_agrees(
+    if card_agrees(
         b"start",
         card::start_ticks(function, ticks, schedule, &seed, &mut card),
-    );
-    if anchored && started {
-        let k = records::wide(card[4]);
-        print(b", k = ");
-        print_number(k);
-        run_ride(function, schedule, k, true, &anchor, &mut card);
+    ) {
+        run_level(function, schedule, &anchor, &mut card);
     }
     print(b"\n");
 }
