@@ -79,6 +79,13 @@ fn larger(a: u32, b: u32) -> u32 {
     if a < b { b } else { a }
 }
 
+// A number between two texts.
+fn print_between(before: &[u8], n: u32, after: &[u8]) {
+    print(before);
+    print_number(n);
+    print(after);
+}
+
 fn says(who: &[u8], why: Refusal) {
     print(b", ");
     print(who);
@@ -162,9 +169,7 @@ fn run_rounds(k: u32, schedule: u32, card: &mut [u8; CARD], post: &mut [u8; POST
         ride = after;
         rounds += 1;
     }
-    print(b" after ");
-    print_number(rounds);
-    print(b" rounds: ");
+    print_between(b" after ", rounds, b" rounds");
     ride
 }
 
@@ -200,9 +205,7 @@ fn print_settled(answer: SettleAnswer) {
 fn settle(function: u32, k: u32, anchor: &[u8; 16], post: [u8; POST]) {
     let paid = records::word(&post[4..8]);
     print_settled(post::settle(function, k, anchor, &post[24..40], paid));
-    print(b" to ");
-    print_number(paid);
-    print(b" paid");
+    print_between(b" to ", paid, b" paid");
 }
 
 // What the post says to its value held, the last tick: 0 where it takes it.
@@ -216,23 +219,16 @@ fn offer_again(post: [u8; POST]) {
 }
 
 fn print_figures(ride: Ride) {
-    print_number(ride.credited);
-    print(b" ticks credited, ");
-    print_number(ride.hashes);
-    print(b" hashes, at most ");
-    print_number(ride.most);
-    print(b" in a paying round, at most ");
-    print_number(ride.held);
-    print(b" values held");
+    print_between(b": ", ride.credited, b" ticks credited");
+    print_between(b", ", ride.hashes, b" hashes");
+    print_between(b", at most ", ride.most, b" in a paying round");
+    print_between(b", at most ", ride.held, b" values held");
 }
 
 fn print_head(function: u32, schedule: u32, name: &[u8], n: u32) {
-    print(b"function ");
-    print_number(function);
-    print(b", ");
+    print_between(b"function ", function, b", ");
     print_schedule(schedule);
-    print(name);
-    print_number(n);
+    print_between(name, n, b"");
 }
 
 // A post is enrolled for a card, and the ride is run.
@@ -263,8 +259,7 @@ fn run(function: u32, schedule: u32, k: u32) {
 // The ride of a card of n ticks, with a post for the k that stands in the card's record.
 fn run_level(function: u32, schedule: u32, anchor: &[u8; 16], card: &mut [u8; CARD]) {
     let k = records::wide(card[4]);
-    print(b", k = ");
-    print_number(k);
+    print_between(b", k = ", k, b"");
     run_ride(function, schedule, k, anchor, card);
 }
 
@@ -341,9 +336,11 @@ fn run_beside(function: u32, schedule: u32) {
         card::start(function, BESIDE_K, schedule, &seed, &mut card),
     );
     let count = count_rebuilt(function, schedule, &mut card);
-    print(b", rebuilt before 21 rounds from 1 to 2048: ");
-    print_number(count);
-    print(b" the same\n");
+    print_between(
+        b", rebuilt before 21 rounds from 1 to 2048: ",
+        count,
+        b" the same\n",
+    );
 }
 
 // A rebuild before a round that the card does not have.
