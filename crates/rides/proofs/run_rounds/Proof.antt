@@ -13,8 +13,8 @@ abbrev μ-loop : tie.MeasureT-loop
 loop-holds : tie.Need-loop-holds Inv-loop μ-loop
 loop-holds c = search needs
 
-add-next : tie.Need-add-next Inv-loop μ-loop
-add-next c = search needs
+next-round-requires : tie.Need-next-round-requires Inv-loop μ-loop
+next-round-requires c κs = search needs
 
 count-held-requires : tie.Need-count-held-requires Inv-loop μ-loop
 count-held-requires c κs = search needs
@@ -43,20 +43,14 @@ loop-less c = search needs
 loop-again : tie.Need-loop-again Inv-loop μ-loop
 loop-again c = search needs
 
-slice-aggregate-print : tie.Need-slice-aggregate-print Inv-loop μ-loop
-slice-aggregate-print c = search needs
+slice-aggregate-print-between : tie.Need-slice-aggregate-print-between Inv-loop μ-loop
+slice-aggregate-print-between c = search needs
 
-print-requires : tie.Need-print-requires Inv-loop μ-loop
-print-requires c κs = search needs
+slice-aggregate-print-between-2 : tie.Need-slice-aggregate-print-between-2 Inv-loop μ-loop
+slice-aggregate-print-between-2 c = search needs
 
-print-number-requires : tie.Need-print-number-requires Inv-loop μ-loop
-print-number-requires c κs = search needs
-
-slice-aggregate-print-2 : tie.Need-slice-aggregate-print-2 Inv-loop μ-loop
-slice-aggregate-print-2 c = search needs
-
-print-requires-2 : tie.Need-print-requires-2 Inv-loop μ-loop
-print-requires-2 c κs = search needs
+print-between-requires : tie.Need-print-between-requires Inv-loop μ-loop
+print-between-requires c κs = search needs
 
 returns : tie.Need-returns Inv-loop μ-loop
 returns c = search needs
@@ -68,7 +62,7 @@ run-rounds-spec =
     Inv-loop
     μ-loop
     loop-holds
-    add-next
+    next-round-requires
     count-held-requires
     enum-known-counted
     enum-told
@@ -78,9 +72,7 @@ run-rounds-spec =
     add-rounds
     loop-less
     loop-again
-    slice-aggregate-print
-    print-requires
-    print-number-requires
-    slice-aggregate-print-2
-    print-requires-2
+    slice-aggregate-print-between
+    slice-aggregate-print-between-2
+    print-between-requires
     returns)
