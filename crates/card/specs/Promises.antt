@@ -1,5 +1,5 @@
--- What start, round, anchor, rebuild and the two calls for n ticks promise, and that each promise leaves no choice. The right sides are definitions over what was lent;
--- a refusal is a case of them: its number alone is said, and no byte changes. Assumes nothing.
+-- What start, rebuild, round, anchor and the two calls for n ticks promise, and that each promise leaves no choice. The right sides are
+-- definitions over what was lent; a refusal is a case of them: its number alone is said, and no byte changes. Assumes nothing.
 use mathlib.Core.Path.{_≡_, refl, sym, ap, _∙_}
 use mathlib.Core.List.{List, [], _∷_, map}
 use Prim.Native.Nat.{ℕ, _^_}
@@ -32,9 +32,8 @@ roundAnswerSays (Quiet hashes) = 0 ∷ 0 ∷ hashes ∷ []
 roundAnswerSays (Tick position hashes) = 0 ∷ 1 ∷ position ∷ hashes ∷ []
 roundAnswerSays (NoRound refusal) = saidOf refusal
 
--- ---- start: the record for round 1, slot 0 the seed
+-- ---- start, rebuild and start of n ticks, once the tests have judged: 0 where they pass, and the record with the values to be laid
 
--- once the tests have judged: 0 where they pass, and then the record with these values
 abbrev pub judgedSays : Inspected → List ℕ
 judgedSays (TurnedDown refusal) = saidOf refusal
 judgedSays (Card head) = 0 ∷ []
@@ -42,6 +41,8 @@ judgedSays (Card head) = 0 ∷ []
 abbrev pub judgedCard : (Head → List (List ℕ)) → List ℕ → Inspected → List ℕ
 judgedCard laid card (TurnedDown refusal) = card
 judgedCard laid card (Card head) = over (cardBytes head (laid head)) card
+
+-- ---- start: the record for round 1, slot 0 the seed
 
 unfoldable pub startMustSay : ℕ → ℕ → ℕ → List ℕ → List ℕ → List ℕ
 startMustSay function k schedule seed card = judgedSays (startJudged (headAt function k schedule 1) seed card)

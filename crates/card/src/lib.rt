@@ -133,7 +133,7 @@ pub fn rebuild(
     ensures { λ a. ⌜ Rebuilt function k schedule round (now (seed .entry)) (now (card .entry)) a (now (card .exit)) ⌝ }
 {
     if oneway::known(function) {
-        // The position list makes the tests of k, schedule and round, in this order, and is long enough for any.
+        // The position list makes the tests of k, schedule and round, in this order; what it is lent is long enough for any.
         let mut held = [0u32; pebbling::MOST];
         let listed = pebbling::positions(k, schedule, round, &mut held);
         return match listed {

@@ -44,7 +44,7 @@ allowed-range n e = go (leb 1 n) (leb n 1048576) refl refl e
     go true false p q e = absurd (true≢false (sym e))
     go false b p q e = absurd (true≢false (sym e))
 
--- none of 0 ticks, and otherwise by the most there may be
+-- 0 is not; from 1 on it is a matter of the most there may be
 pub allowed-none : (n : ℕ) → n ≡ 0 → allowed n ≡ false
 unfolding allowed
 allowed-none n e = rw (lt-leb 1 n (omega arith)) refl

@@ -24,7 +24,7 @@ packed number kind first second = number + kind * 2 ^ 8 + first * 2 ^ 16 + secon
 abbrev pub refusedWord : Refusal → ℕ
 refusedWord refusal = packed (numberOf refusal) 0 0 0
 
--- start and anchor
+-- start, rebuild, anchor, and start and anchor of n ticks
 abbrev pub doneWord : Answer → ℕ
 doneWord Done = packed 0 0 0 0
 doneWord (Refused refusal) = refusedWord refusal

@@ -50,7 +50,7 @@ module _ (function k s : ℕ) (seed lent : List ℕ) (given : Given function k s
   unfolding rebuildCard
   rebuild-holds-its-positions r from upto = rw (rebuild-passes r from upto) refl
 
-  -- these are the very bytes that a start and r - 1 rounds leave, whatever out buffers the rounds were lent
+  -- these are the very bytes that a start and r - 1 rounds leave, whatever out buffers with room for a value the rounds were lent
   pub rebuild-is-the-run : (outs : ℕ → List ℕ) → ((r : ℕ) → width c ≤ length (outs r)) → (r : ℕ) → 0 < r → r ≤ 2 ^ suc k
       → rebuildCard function k s r seed lent ≡ after function k s seed lent outs (r - 1)
   rebuild-is-the-run outs wide r from upto =
