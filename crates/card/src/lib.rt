@@ -134,7 +134,7 @@ pub fn rebuild(
 {
     if oneway::known(function) {
         // The position list makes the tests of k, schedule and round, in this order; what it is lent is long enough for any.
-        let mut held = [0u32; pebbling::MOST];
+        let mut held = [0u32; pebbling::MOST_POSITIONS];
         let listed = pebbling::positions(k, schedule, round, &mut held);
         return match listed {
             PositionsAnswer::Refused(refusal) => Answer::Refused(refusal),
@@ -162,11 +162,11 @@ pub fn start_ticks(function: u32, ticks: u32, schedule: u32, seed: &[u8], card: 
 {
     if oneway::known(function) {
         let strange = 3 < schedule;
-        let unsold = !levels::allowed(ticks);
+        let outside = !levels::allowed(ticks);
         if strange {
             return Answer::Refused(Refusal::UnknownSchedule);
         }
-        if unsold {
+        if outside {
             return Answer::Refused(Refusal::BadTicks);
         }
         let k = levels::level(ticks);

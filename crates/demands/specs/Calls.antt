@@ -48,10 +48,10 @@ beginsAt (rebuilt r) = r
 beginsAt (sold n) = firstRound n
 
 -- it is one for a card of 2^k ticks: a rebuild for a round from 1 to 2^(k+1), or a start of n ticks whose level is k
-pub data Allowed (k : ℕ) : FirstCall → Type 0 where
-  start : Allowed k started
-  rebuild : {r : ℕ} → 0 < r → r ≤ 2 ^ suc k → Allowed k (rebuilt r)
-  sale : {n : ℕ} → 0 < n → n ≤ 1048576 → level n ≡ k → Allowed k (sold n)
+pub data OfLevel (k : ℕ) : FirstCall → Type 0 where
+  start : OfLevel k started
+  rebuild : {r : ℕ} → 0 < r → r ≤ 2 ^ suc k → OfLevel k (rebuilt r)
+  sale : {n : ℕ} → 0 < n → n ≤ 1048576 → level n ≡ k → OfLevel k (sold n)
 
 -- a round is called with this out buffer, which may be too short; or the record's own bytes are copied to the front of this buffer
 pub data Event : Type 0 where
@@ -164,7 +164,7 @@ module _ (function k s : ℕ) (seed : List ℕ) where
     holds : card ≡ recordAt function k s seed lent r
 
   -- the first call leaves the record for its round
-  begun : (lent : List ℕ) → Given function k s seed lent → (first : FirstCall) → Allowed k first
+  begun : (lent : List ℕ) → Given function k s seed lent → (first : FirstCall) → OfLevel k first
       → Standing (firstCard function k s seed lent first) lent (beginsAt first)
   unfolding firstCard beginsAt
   begun lent given started start =
@@ -238,7 +238,7 @@ module _ (function k s : ℕ) (seed : List ℕ) where
 
 -- ---- a card that is begun, and then any list of events
 
-module _ (function k s : ℕ) (seed lent : List ℕ) (given : Given function k s seed lent) (first : FirstCall) (allowed : Allowed k first)
+module _ (function k s : ℕ) (seed lent : List ℕ) (given : Given function k s seed lent) (first : FirstCall) (allowed : OfLevel k first)
     (events : List Event) (long : LongEnough function k s events) where
   -- the record that the first call and the events leave, the buffer that was lent last, and the round that comes next
   abbrev card : List ℕ

@@ -7,7 +7,7 @@ ghost use Rattle.lists.specs.Written.{Written};
 ghost use Rattle.listing.specs.Listing.{nameOf, lineFor, headLine, totalLine, listingOf, Listing};
 ghost use Rattle.listing.specs.Listing.{reads as isRead};
 ghost use Rattle.listing.specs.Listing.{decides as isDecided};
-use text::put;
+use records::put;
 use text::put_decimal;
 use text::put_field;
 

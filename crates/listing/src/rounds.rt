@@ -6,11 +6,11 @@ ghost use Rattle.lists.specs.Written.{Written};
 ghost use Rattle.pebbling.specs.Recursion.{schedule as scheduleOf, work, total as totalOf};
 ghost use Rattle.listing.specs.Listing.{markBefore, positionList, heldFields, roundLine, roundLines};
 ghost use Rattle.listing.specs.Steps.{Lined, quietLine, quietHashes, answerLine, answerHashes, Round, cardBefore};
-use super::text::put;
 use super::text::put_field;
 use card::RoundAnswer;
 use pebbling::PositionsAnswer;
 use pebbling::RoundNumber;
+use records::put;
 
 // Lines that were written: where they end, and the hashes that they tell of.
 pub struct Line {

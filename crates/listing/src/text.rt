@@ -1,4 +1,4 @@
-// Bytes and numbers written into a text. A function that writes takes the place to write from, `at`, and answers the place behind what
+// Numbers written into a text. A function that writes takes the place to write from, `at`, and answers the place behind what
 // it wrote.
 ghost use mathlib.Core.Path.{_≡_};
 ghost use Prim.Native.Nat.{_+_, _≤_, _<_};
@@ -7,15 +7,6 @@ ghost use Rattle.lists.specs.Written.{Written};
 ghost use Rattle.listing.specs.Text.{decimal};
 ghost use Rattle.listing.specs.Text.{digit as digitOf};
 ghost use Rattle.listing.specs.Listing.{field};
-
-// Bytes as they are.
-pub fn put(piece: &[u8], at: usize, text: &mut [u8]) -> usize
-    requires { ⌜ at + length (now piece) ≤ length (now text) ⌝ }
-    ensures { λ end. ⌜ Written (now (piece .entry)) at (now (text .entry)) end (now (text .exit)) ⌝ }
-{
-    records::copy(piece, &mut text[at..]);
-    at + piece.len()
-}
 
 fn digit(d: u32) -> u8
     requires { ⌜ d < 10 ⌝ }

@@ -28,7 +28,7 @@ pub fn rounds_left(k: u32, round: RoundNumber) -> RoundsLeft
 }
 
 // The positions of the longest list: no k and schedule have more.
-pub const MOST: usize = 38;
+pub const MOST_POSITIONS: usize = 38;
 
 // What the position list answers.
 pub enum PositionsAnswer {
@@ -66,7 +66,7 @@ pub fn positions(k: u32, schedule: u32, round: u32, list: &mut [u32]) -> Positio
         };
     }
     // Aside first: how many there are is known then, and a list that is too short stays as it is.
-    let mut aside = [0u32; MOST];
+    let mut aside = [0u32; MOST_POSITIONS];
     let listed = position_list::list_all(schedule, k, round, 0, 0, &mut aside);
     let entries = listed.end;
     if list.len() < entries {

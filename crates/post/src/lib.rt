@@ -15,9 +15,6 @@ use refusals::Refusal;
 mod layout;
 mod steps;
 
-// The room in which a value is stepped on: no function's values are wider.
-const WIDEST: usize = 16;
-
 // What the first 8 bytes of a record say: the chain's function, k, and the ticks paid.
 pub struct Head {
     pub function: u32,
@@ -169,7 +166,7 @@ fn seek(head: Head, post: &[u8], value: &[u8], gap: u32) -> Found
     let from = 8 + w;
     let end = from + w;
     let n = limit(head, gap);
-    let mut stepped = [0u8; WIDEST];
+    let mut stepped = [0u8; oneway::WIDEST];
     records::copy(value, &mut stepped);
     steps::search(chain, n, &post[from..end], &mut stepped[..w])
 }
@@ -255,7 +252,7 @@ fn arrives(chain: Chain, anchor: &[u8], last: &[u8], paid: u32) -> bool
     ensures { λ r. ⌜ r ≡ arrivesOf chain (now (anchor .entry)) (now (last .entry)) paid ⌝ }
 {
     let w = oneway::width(chain);
-    let mut stepped = [0u8; WIDEST];
+    let mut stepped = [0u8; oneway::WIDEST];
     records::copy(last, &mut stepped);
     steps::leads(chain, paid, anchor, &mut stepped[..w])
 }

@@ -17,6 +17,7 @@ use Rattle.oneway.specs.Step.{known, width, step}
 use Rattle.oneway.specs.declared.Chain.{Chain}
 use Rattle.pebbling.specs.Recursion.{schedule, positions, work, chain}
 use Rattle.records.specs.Chains.{chain-length}
+use Rattle.card.specs.declared.Answer.the-variants.{Done}
 use Rattle.card.specs.declared.Inspected.the-variants.{Card}
 use Rattle.card.specs.Record.{headAt, slotsSize, size, cardBytes}
 use Rattle.card.specs.Refused.{roomFor, startTicksJudged, anchorJudged, anchorTicksJudged}
@@ -40,6 +41,26 @@ pub record Sold (function n s : ℕ) (seed lent : List ℕ) : Type 0 where
 unfoldable pub soldCard : (function n s : ℕ) (seed lent : List ℕ) (outs : ℕ → List ℕ) → ℕ → List ℕ
 soldCard function n s seed lent outs zero = startTicksCard function n s seed lent
 soldCard function n s seed lent outs (suc m) = roundCard (soldCard function n s seed lent outs m) (outs m)
+
+-- ---- the anchor, which takes no schedule and no card
+
+module _ (function n : ℕ) (seed : List ℕ) (is-known : known function ≡ true) (some : 0 < n) (few : n ≤ 1048576) (seeded : length seed ≡ width (record { function = function })) where
+  abbrev f : Chain
+  f = record { function = function }
+
+  passes : (out : List ℕ) → width f ≤ length out → anchorTicksJudged f n seed out ≡ Done
+  unfolding anchorTicksJudged
+  passes out w =
+      rw (is-known, allowed-holds n some few, eq-eqb (length seed) (width f) seeded, le-ltb (length out) (width f) w) refl
+
+  pub anchor-ticks-is-done : (out : List ℕ) → width f ≤ length out → anchorTicksMustSay f n seed out ≡ 0 ∷ []
+  unfolding anchorTicksMustSay
+  anchor-ticks-is-done out w = rw (passes out w) refl
+
+  -- it is x_n
+  pub anchor-of-n-ticks : (out : List ℕ) → width f ≤ length out → anchorTicksOut f n seed out ≡ over (chain (step f) seed n) out
+  unfolding anchorTicksOut
+  anchor-of-n-ticks out w = rw (passes out w) refl
 
 -- ---- the start
 
@@ -127,20 +148,7 @@ module _ (function n s : ℕ) (seed lent : List ℕ) (is : Sold function n s see
         ap (λ (b : List ℕ). roundMustSay b out) (runs-on n)
         ∙ rebuilt-spent-card-says-6 function k s seed lent given-of (firstRound n) from outs wide n out left
 
-  -- ---- its anchor
-
-  -- the anchor is x_n
-  pub anchor-ticks-is-done : (out : List ℕ) → width c ≤ length out → anchorTicksMustSay c n seed out ≡ 0 ∷ []
-  unfolding anchorTicksMustSay anchorTicksJudged
-  anchor-ticks-is-done out w =
-      rw (is .known, allowed-holds n (is .some) (is .few), eq-eqb (length seed) (width c) (is .seeded), le-ltb (length out) (width c) w) refl
-
-  pub anchor-of-n-ticks : (out : List ℕ) → width c ≤ length out → anchorTicksOut c n seed out ≡ over (chain (step c) seed n) out
-  unfolding anchorTicksOut anchorTicksJudged
-  anchor-of-n-ticks out w =
-      rw (is .known, allowed-holds n (is .some) (is .few), eq-eqb (length seed) (width c) (is .seeded), le-ltb (length out) (width c) w) refl
-
-  -- so one step from the card's first tick gives it
+  -- ---- its anchor is one step from its first tick
   pub first-of-n-ticks-leads-to-the-anchor : (outs : ℕ → List ℕ) → ((m : ℕ) → width c ≤ length (outs m)) → (out : List ℕ) → width c ≤ length out
       → step c (take (width c) (roundOut (soldCard function n s seed lent outs 0) (outs 0))) ≡ take (width c) (anchorTicksOut c n seed out)
   unfolding chain
@@ -151,7 +159,7 @@ module _ (function n s : ℕ) (seed lent : List ℕ) (is : Sold function n s see
       go (suc i) e =
           ap (λ (b : List ℕ). step c (take (width c) b)) (sold-round-pays outs wide 0 i (omega arith))
           ∙ ap (step c) (take-at (chain (step c) seed i) _ (width c) (chain-length c seed (is .seeded) i))
-          ∙ sym (ap (take (width c)) (anchor-of-n-ticks out w ∙ ap (λ (m : ℕ). over (chain (step c) seed m) out) (sym e))
+          ∙ sym (ap (take (width c)) (anchor-of-n-ticks function n seed (is .known) (is .some) (is .few) (is .seeded) out w ∙ ap (λ (m : ℕ). over (chain (step c) seed m) out) (sym e))
           ∙ take-at (chain (step c) seed (suc i)) _ (width c) (chain-length c seed (is .seeded) (suc i)))
 
 -- for 2^k ticks `anchor_ticks` says and writes what `anchor` does, refusals included

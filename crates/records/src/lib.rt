@@ -1,9 +1,10 @@
 // What the card's and the post's records share: bytes copied, numbers of four bytes read and written, and steps along a chain.
 ghost use mathlib.Core.Path.{_≡_};
-ghost use Prim.Native.Nat.{_≤_};
+ghost use Prim.Native.Nat.{_+_, _≤_};
 ghost use lib.Dec.{T};
 ghost use lib.ListN.{length};
 ghost use Rattle.lists.specs.Writing.{over};
+ghost use Rattle.lists.specs.Written.{Written};
 ghost use Rattle.oneway.specs.Step.{known, width, step, littleEndian};
 ghost use Rattle.pebbling.specs.Recursion.{chain as element};
 ghost use Rattle.records.specs.Numbers.{number};
@@ -17,6 +18,15 @@ pub fn copy(from: &[u8], to: &mut [u8])
     for i in 0..from.len() {
         to[i] = from[i];
     }
+}
+
+// Writes a piece into a text from a place on, and answers the place behind it.
+pub fn put(piece: &[u8], at: usize, text: &mut [u8]) -> usize
+    requires { ⌜ at + length (now piece) ≤ length (now text) ⌝ }
+    ensures { λ end. ⌜ Written (now (piece .entry)) at (now (text .entry)) end (now (text .exit)) ⌝ }
+{
+    copy(piece, &mut text[at..]);
+    at + piece.len()
 }
 
 // A byte as a number.

@@ -4,7 +4,6 @@ ghost use mathlib.Core.Path.{_≡_};
 ghost use Prim.Native.Nat.{_+_, _-_, _≤_};
 ghost use lib.Dec.{T};
 ghost use lib.ListN.{length};
-ghost use Rattle.lists.specs.Written.{Written};
 ghost use Rattle.oneway.specs.Step.{known, width, step};
 ghost use Rattle.pebbling.specs.Recursion.{chain as element};
 ghost use Rattle.refill.specs.Refill.{Fillable, Refilled};
@@ -26,15 +25,6 @@ fn climb(chain: Chain, from: u32, to: u32, value: &mut [u8]) -> u32
     at
 }
 
-// Stores a value in the slots from a byte on. Answers the byte behind it.
-fn store(value: &[u8], at: usize, slots: &mut [u8]) -> usize
-    requires { ⌜ at + length (now value) ≤ length (now slots) ⌝ }
-    ensures { λ end. ⌜ Written (now (value .entry)) at (now (slots .entry)) end (now (slots .exit)) ⌝ }
-{
-    records::copy(value, &mut slots[at..]);
-    at + value.len()
-}
-
 // The walk itself: `value` is lent as the seed and left as the last value stored. The positions fall, so it takes them from the last
 // to the first. Answers the hashes done.
 fn fill(chain: Chain, positions: &[u32], value: &mut [u8], slots: &mut [u8]) -> u32
@@ -47,7 +37,7 @@ fn fill(chain: Chain, positions: &[u32], value: &mut [u8], slots: &mut [u8]) -> 
     while 0 < i {
         i -= 1;
         at = climb(chain, at, positions[i], value);
-        store(value, i * w, slots);
+        records::put(value, i * w, slots);
     }
     at
 }

@@ -131,7 +131,7 @@ fn run_round(ride: Ride, card: &mut [u8; CARD], post: &mut [u8; POST]) -> Turn {
 
 // The position list is asked how much is held before a round.
 fn count_held(ride: Ride, k: u32, schedule: u32, round: RoundNumber) -> Turn {
-    let mut list = [0u32; pebbling::MOST];
+    let mut list = [0u32; pebbling::MOST_POSITIONS];
     match pebbling::positions(k, schedule, round.0, &mut list) {
         PositionsAnswer::Refused(why) => over(b"position list", why),
         PositionsAnswer::Listed { count, hashes: _ } => Turn::On(Ride {

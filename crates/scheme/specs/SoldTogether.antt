@@ -46,7 +46,7 @@ module _ (function n s : ℕ) (seed lent : List ℕ) (sold : Sold function n s s
     pub sold-anchor-is : soldAnchor ≡ x n
     unfolding soldAnchor
     sold-anchor-is =
-        ap (take (width c)) (anchor-of-n-ticks function n s seed lent sold buffer room)
+        ap (take (width c)) (anchor-of-n-ticks function n seed (sold .known) (sold .some) (sold .few) (sold .seeded) buffer room)
         ∙ take-at (x n) _ (width c) (chain-length c seed (sold .seeded) n)
 
     -- the post: enrolled with that anchor and the card's level, and then offered the ticks in order, each with a gap limit of its own

@@ -38,15 +38,15 @@ climb-requires c κs =
     let start = at-loop .before .before .before .before .before in
     (start .pre .known, (at-loop .loop .inv .walks .sized ∙ start .pre .seeded, fill-up _ _ _ _ (start .pre) _ _ _ _ _ (at-loop .loop .inv) (at-test .loop-test .taken)))
 
-mul-store : tie.Need-mul-store Inv-loop μ-loop
-mul-store c =
+mul-put : tie.Need-mul-put Inv-loop μ-loop
+mul-put c =
     let at-test = c .before .before .before .before .before .before in
     let at-loop = at-test .before in
     let start = at-loop .before .before .before .before .before in
     omega (arith, fill-slot _ _ _ _ (start .pre) _ _ _ _ _ (at-loop .loop .inv) (at-test .loop-test .taken))
 
-store-requires : tie.Need-store-requires Inv-loop μ-loop
-store-requires c κs =
+put-requires : tie.Need-put-requires Inv-loop μ-loop
+put-requires c κs =
     let at-climb = c .before .before .before .before in
     let at-test = at-climb .before .before .before in
     let at-loop = at-test .before in
@@ -58,12 +58,12 @@ loop-less c = omega arith
 
 loop-again : tie.Need-loop-again Inv-loop μ-loop
 loop-again c =
-    let at-store = c .before .before in
-    let at-climb = at-store .before .before .before .before .before in
+    let at-put = c .before .before in
+    let at-climb = at-put .before .before .before .before .before in
     let at-test = at-climb .before .before .before in
     let at-loop = at-test .before in
     let start = at-loop .before .before .before .before .before in
-    rw (at-climb .climb .ensures .0) (filling-next _ _ _ _ (start .pre) _ _ _ _ _ (at-loop .loop .inv) (at-test .loop-test .taken) _ (at-climb .climb .ensures .1) _ _ (at-store .store .ensures))
+    rw (at-climb .climb .ensures .0) (filling-next _ _ _ _ (start .pre) _ _ _ _ _ (at-loop .loop .inv) (at-test .loop-test .taken) _ (at-climb .climb .ensures .1) _ _ (at-put .put .ensures))
 
 same-length : tie.Need-same-length Inv-loop μ-loop
 same-length c = c .before .loop .inv .walks .sized
@@ -89,8 +89,8 @@ fill-spec =
     mul-climb
     shared-slice-read-climb
     climb-requires
-    mul-store
-    store-requires
+    mul-put
+    put-requires
     loop-less
     loop-again
     same-length

@@ -1,8 +1,8 @@
--- `refill::store` meets its contract: a copy to the front of the slots' rest is the value written from `at` on. Assumes nothing.
+-- `records::put` meets its contract: a copy to the front of the text's rest is the piece written from `at` on. Assumes nothing.
 use borrow.Author.Needs.{needs}
 use Rattle.lists.specs.Written.{written-part}
-use Rattle.refill.proofs.store.Statement.{statement}
-use Rattle.refill.proofs.store.Tie as tie
+use Rattle.records.proofs.put.Statement.{statement}
+use Rattle.records.proofs.put.Tie as tie
 
 sub-copy : tie.Need-sub-copy
 sub-copy c = search needs
@@ -25,9 +25,9 @@ same-length c = search needs
 returns : tie.Need-returns
 returns c =
     let start = c .before .before .before .before .before .before in
-    written-part (start .args .value .now) (start .args .slots .now) _ (start .args .at) (start .pre) (c .before .before .copy .ensures)
+    written-part (start .args .piece .now) (start .args .text .now) _ (start .args .at) (start .pre) (c .before .before .copy .ensures)
 
-pub store-spec : {M : Type 1} → statement M
-store-spec =
+pub put-spec : {M : Type 1} → statement M
+put-spec =
     tie.close
     (tie.spec sub-copy part-copy-start part-copy-end copy-requires add-result same-length returns)
