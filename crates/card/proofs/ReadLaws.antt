@@ -27,7 +27,7 @@ use Rattle.card.specs.declared.Head.{Head}
 use Rattle.card.specs.declared.Inspected.{Inspected}
 use Rattle.card.specs.declared.Inspected.the-variants.{Refused, Card}
 use Rattle.card.specs.Record.{widthOf, heldCount, heldSize, slotsSize, size, headBytes, headOf, freeSlots, allZero, laidOut}
-use Rattle.card.specs.Refused.{passing, numbers, inspectSlots, inspectOf}
+use Rattle.card.specs.Refused.{passing, numbers, inRange, inspectSlots, inspectOf}
 
 -- ---- zeros: what was seen is zero just where all bytes so far are
 
@@ -156,7 +156,7 @@ module _ (card : List ℕ) (head : Head) (n : ℕ) (slotted : (n ≡ slotsSize h
     long = le-ltb (length card) (size head) (omega (arith, whole))
 
     pub round-none : head .round .0 ≡ 0 → Refused BadRecord ≡ inspectSlots card head
-    unfolding inspectSlots
+    unfolding inspectSlots inRange
     round-none z = rw (long, eq-eqb (head .round .0) 0 z) refl
 
     module _ (z : head .round .0 ≡ 0 → ⊥) (p : ℕ) (q : Power (head .k + 1) p) where
@@ -164,7 +164,7 @@ module _ (card : List ℕ) (head : Head) (n : ℕ) (slotted : (n ≡ slotsSize h
       end = q .is ∙ ap (λ (x : ℕ). 2 ^ x) (add-one (head .k))
 
       pub round-over : p < head .round .0 → Refused BadRecord ≡ inspectSlots card head
-      unfolding inspectSlots
+      unfolding inspectSlots inRange
       round-over o = rw (long, ne-eqb (head .round .0) 0 z, lt-ltb (2 ^ suc (head .k)) (head .round .0) (omega (arith, end))) refl
 
       module _ (o : head .round .0 ≤ p) where
@@ -178,7 +178,7 @@ module _ (card : List ℕ) (head : Head) (n : ℕ) (slotted : (n ≡ slotsSize h
 
           module _ (x : Bool) (e : x ≡ allZero (take (16 + n - (16 + m)) (drop (16 + m) card))) where
             judged : cond x (Card head) (Refused BadRecord) ≡ inspectSlots card head
-            unfolding inspectSlots
+            unfolding inspectSlots inRange
             judged =
                 rw (long, ne-eqb (head .round .0) 0 z, le-ltb (2 ^ suc (head .k)) (head .round .0) round-in, ← part, ← e) refl
 

@@ -6,7 +6,7 @@ use mathlib.Core.List.{List, _++_, map, append-assoc}
 use Prim.Native.Nat.{ℕ, zero, suc, _+_, _-_, _^_, _≤_, _<_}
 use native.Mathlib.Nat.{mul-le-mul-left}
 use native.Mathlib.Omega.{arith}
-use borrow.Author.Tests.{le-ltb, ne-eqb}
+use borrow.Author.Tests.{le-ltb}
 use lib.ListN.{length, drop, replicate, length-append, length-replicate}
 use lib.Pow.{pow-mono}
 use lib.Seq.{take-at, drop-at, drop-append-add}
@@ -22,7 +22,7 @@ use Rattle.card.specs.declared.Head.{Head}
 use Rattle.card.specs.declared.Inspected.the-variants.{Card}
 use Rattle.card.specs.Record.{chainOf, widthOf, heldCount, heldSize, slotsSize, size, headBytes, filled, cardBytes, headOf, heldValues, freeSlots, allZero, laidOut}
 use Rattle.card.specs.Refused.{inspectSlots, inspectOf}
-use Rattle.card.specs.Sound.{Numbered, numbers-pass}
+use Rattle.card.specs.Sound.{Numbered, numbers-pass, in-range}
 
 -- ---- lists
 
@@ -124,8 +124,7 @@ module _ (head : Head) (vs : List (List ℕ)) (nr : Numbered head) (from : 0 < h
           head-back rest,
           numbers-pass head nr,
           le-ltb (length (headBytes head ++ rest)) (size head) s,
-          ne-eqb (head .round .0) 0 (λ e. omega arith),
-          le-ltb (2 ^ suc (head .k)) (head .round .0) upto,
+          in-range head from upto,
           free-back (drop (size head) old),
         ) refl)
 

@@ -30,6 +30,13 @@ numbers head =
     (cond (ltb 3 (head .schedule)) (Refused UnknownSchedule)
     (Card head)))
 
+-- the round, from 1 to 2^(k+1): 5
+unfoldable pub inRange : Head → Inspected
+inRange head =
+    cond (eqb (head .round .0) 0) (Refused BadRecord)
+    (cond (ltb (2 ^ suc (head .k)) (head .round .0)) (Refused BadRecord)
+    (Card head))
+
 -- ---- start: 1, 2, 3, and 4 for the seed and the lent record; rebuild: 1, 2, 3, 5 for the round, and 4
 
 unfoldable pub roomFor : List ℕ → List ℕ → Head → Inspected
@@ -38,12 +45,6 @@ roomFor seed card head =
 
 unfoldable pub startJudged : Head → List ℕ → List ℕ → Inspected
 startJudged head seed card = passing (numbers head) (roomFor seed card)
-
-unfoldable pub inRange : Head → Inspected
-inRange head =
-    cond (eqb (head .round .0) 0) (Refused BadRecord)
-    (cond (ltb (2 ^ suc (head .k)) (head .round .0)) (Refused BadRecord)
-    (Card head))
 
 unfoldable pub rebuildJudged : Head → List ℕ → List ℕ → Inspected
 rebuildJudged head seed card = passing (numbers head) (λ h. passing (inRange h) (roomFor seed card))
@@ -84,10 +85,7 @@ later head = record { function = head .function; schedule = head .schedule; k = 
 unfoldable pub inspectSlots : List ℕ → Head → Inspected
 inspectSlots card head =
     cond (ltb (length card) (size head)) (Refused WrongLength)
-    (cond (eqb (head .round .0) 0) (Refused BadRecord)
-    (cond (ltb (2 ^ suc (head .k)) (head .round .0)) (Refused BadRecord)
-    (cond (allZero (freeSlots head card)) (Card head)
-    (Refused BadRecord))))
+    (passing (inRange head) (λ h. cond (allZero (freeSlots h card)) (Card h) (Refused BadRecord)))
 
 -- a card's record up to its free slots: fewer than 16 bytes 4; mark or zero bytes 5; 1; 2; 3; and on
 unfoldable pub inspectOf : List ℕ → Inspected

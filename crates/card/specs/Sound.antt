@@ -60,6 +60,25 @@ passed-on g next h e = go (numbers g) refl e
     go (Refused x) q e = let z : _≡_ {A = ℕ} 0 1 = cc in absurd (omega arith)
     go (Card j) q e = let same : g ≡ j = numbers-same g j q in (rw same (numbers-known g j q), rw same e)
 
+-- the round is in its range, and then the next tests pass the same head
+in-range-on : (g : Head) (next : Head → Inspected) (h : Head) → passing (inRange g) next ≡ Card h
+    → (0 < g .round .0) × (g .round .0 ≤ 2 ^ suc (g .k)) × (next g ≡ Card h)
+unfolding inRange
+in-range-on g next h e = go (eqb (g .round .0) 0) (ltb (2 ^ suc (g .k)) (g .round .0)) refl refl e
+  where
+    go : (none over : Bool) → eqb (g .round .0) 0 ≡ none → ltb (2 ^ suc (g .k)) (g .round .0) ≡ over
+        → passing (cond none (Refused BadRecord) (cond over (Refused BadRecord) (Card g))) next ≡ Card h
+        → (0 < g .round .0) × (g .round .0 ≤ 2 ^ suc (g .k)) × (next g ≡ Card h)
+    go true over p q e = let z : _≡_ {A = ℕ} 0 1 = cc in absurd (omega arith)
+    go false true p q e = let z : _≡_ {A = ℕ} 0 1 = cc in absurd (omega arith)
+    go false false p q e =
+        let z : g .round .0 ≡ 0 → ⊥ = eqb-false (g .round .0) 0 p in
+        (omega arith, ltb-false (2 ^ suc (g .k)) (g .round .0) q, e)
+
+pub in-range : (head : Head) → 0 < head .round .0 → head .round .0 ≤ 2 ^ suc (head .k) → inRange head ≡ Card head
+unfolding inRange
+in-range head from upto = rw (ne-eqb (head .round .0) 0 (λ e. omega arith), le-ltb (2 ^ suc (head .k)) (head .round .0) upto) refl
+
 -- ---- start and rebuild
 
 -- a seed of the function's width, and a record that is long enough
@@ -87,9 +106,8 @@ numbers-pass head n = rw (n .known, le-ltb 20 (head .k) (n .small), le-ltb 3 (he
 
 pub rebuild-judged : (head : Head) (seed card : List ℕ) → Numbered head → 0 < head .round .0 → head .round .0 ≤ 2 ^ suc (head .k)
     → rebuildJudged head seed card ≡ roomFor seed card head
-unfolding rebuildJudged inRange
-rebuild-judged head seed card n from upto =
-    rw (numbers-pass head n, ne-eqb (head .round .0) 0 (λ e. omega arith), le-ltb (2 ^ suc (head .k)) (head .round .0) upto) refl
+unfolding rebuildJudged
+rebuild-judged head seed card n from upto = rw (numbers-pass head n, in-range head from upto) refl
 
 -- ---- a record that passes inspection
 
@@ -107,18 +125,11 @@ sound card h e =
     let b = passed-if (laidOut card) BadRecord _ h (a .1) in
     let c = passed-on g (inspectSlots card) h (b .1) in
     let d = passed-by (ltb (length card) (size g)) WrongLength _ h (c .1) in
-    let f = passed-by (eqb (g .round .0) 0) BadRecord _ h (d .1) in
-    let i = passed-by (ltb (2 ^ suc (g .k)) (g .round .0)) BadRecord _ h (f .1) in
-    let j : Card g ≡ Card h = passed-if (allZero (freeSlots g card)) BadRecord (Card g) h (i .1) .1 in
+    let f = in-range-on g _ h (d .1) in
+    let j : Card g ≡ Card h = passed-if (allZero (freeSlots g card)) BadRecord (Card g) h (f .2) .1 in
     let same : g ≡ h = cc in
-    let z : g .round .0 ≡ 0 → ⊥ = eqb-false (g .round .0) 0 (f .0) in
     rw (← same)
-    (record {
-      numbered = c .0;
-      from = omega arith;
-      upto = ltb-false (2 ^ suc (g .k)) (g .round .0) (i .0);
-      long = ltb-false (length card) (size g) (d .0);
-    })
+    (record { numbered = c .0; from = f .0; upto = f .1; long = ltb-false (length card) (size g) (d .0) })
 
 -- ---- a round that is to be run
 

@@ -1,13 +1,14 @@
 -- Bytes behind a card's record are neither read nor written: by a round or by many rounds, by a start, a rebuild or a start of n ticks. The
 -- record that a round is lent may be damaged: all that is asked is that its own bytes are as many as its own head says (`Whole`). Assumes nothing.
 use mathlib.Core.Path.{_≡_, refl, sym, ap, _∙_}
-use mathlib.Core.Bool.{Bool, true, false}
+use mathlib.Core.Bool.{Bool, true, false, cond}
 use mathlib.Core.Logic.{_⊎_, inl, inr}
 use mathlib.Core.List.{List, [], _∷_, _++_}
 use Prim.Native.Nat.{ℕ, suc, _+_, _-_, _*_, _^_, _≤_, _<_}
 use native.Mathlib.Nat.{eq-zero-or-pos, mul-le-mul-left}
 use native.Mathlib.Omega.{arith}
 use borrow.Author.Tests.{lt-ltb, le-ltb, eq-eqb, ne-eqb}
+use lib.Dec.{eqb, ltb}
 use lib.ListN.{length, take, drop, getD, length-append, length-drop, length-replicate, List·getD-append}
 use lib.Pow.{pow-pos}
 use lib.Seq.{drop-append-le}
@@ -29,7 +30,7 @@ use Rattle.refusals.specs.declared.Refusal.the-variants.{UnknownFunction, Unkno
 use Rattle.card.specs.declared.Head.{Head}
 use Rattle.card.specs.declared.Inspected.{Inspected}
 use Rattle.card.specs.declared.Inspected.the-variants.{Refused, Card}
-use Rattle.card.specs.Record.{headAt, chainOf, widthOf, heldCount, heldSize, slotsSize, size, headBytes, filled, cardBytes, headOf, heldValues, freeSlots, laidOut}
+use Rattle.card.specs.Record.{headAt, chainOf, widthOf, heldCount, heldSize, slotsSize, size, headBytes, filled, cardBytes, headOf, heldValues, freeSlots, allZero, laidOut}
 use Rattle.card.specs.Refused.{later, passing, numbers, roomFor, startJudged, inRange, rebuildJudged, startTicksJudged, inspectSlots, inspectOf, ready, roundJudged}
 use Rattle.card.specs.Promises.{judgedSays, judgedCard, startMustSay, startCard, elementsHeld, rebuildMustSay, rebuildCard, startTicksMustSay, startTicksCard, judgedRoundSays, judgedRoundCard, judgedRoundOut, roundMustSay, roundCard, roundOut}
 use Rattle.card.specs.Sound.{Numbered, numbers-same, numbers-known, numbers-pass, roomy, rebuild-judged, Sound, runs}
@@ -145,14 +146,23 @@ module _ (own rest : List ℕ) (whole : Whole own) where
       go from (inr some) = part-front own rest (size (headOf own) - from) from (omega (arith, long))
 
   slots-same : Numbered (headOf own) → inspectSlots (own ++ rest) (headOf own) ≡ inspectSlots own (headOf own)
-  unfolding inspectSlots
+  unfolding inspectSlots inRange
   slots-same n =
       let long : size (headOf own) ≤ length own = omega (arith, whole .slotted n) in
       rw (
         le-ltb (length (own ++ rest)) (size (headOf own)) (longer own rest (size (headOf own)) long),
         le-ltb (length own) (size (headOf own)) long,
-        free-same long,
-      ) refl
+      ) (go (eqb (headOf own .round .0) 0) (ltb (2 ^ suc (headOf own .k)) (headOf own .round .0)) (free-same long))
+    where
+      judge : List ℕ → Head → Inspected
+      judge card h = cond (allZero (freeSlots h card)) (Card h) (Refused BadRecord)
+
+      go : (none over : Bool) → freeSlots (headOf own) (own ++ rest) ≡ freeSlots (headOf own) own
+          → passing (cond none (Refused BadRecord) (cond over (Refused BadRecord) (Card (headOf own)))) (judge (own ++ rest))
+          ≡ passing (cond none (Refused BadRecord) (cond over (Refused BadRecord) (Card (headOf own)))) (judge own)
+      go true over e = refl
+      go false true e = refl
+      go false false e = rw e refl
 
   inspected-same : inspectOf (own ++ rest) ≡ inspectOf own
   unfolding inspectOf
