@@ -54,7 +54,7 @@ pub fn rebuild(args: &Args) -> Done {
     };
     let seed = value(Path::new(args.needed("--seed-file")?))?;
     let asked = || Asked::new(function, size).schedule(schedule).value("seed", &seed);
-    let k = size.k().map_err(|refusal| asked().refused("rebuild", refusal))?;
+    let k = size.k(function, schedule).map_err(|refusal| asked().refused("rebuild", refusal))?;
     let first = (2 << k.min(K_MOST)) - size.ticks();
     let round = round.or(paid.map(|paid| first.saturating_add(paid))).unwrap_or(0);
     let mut record = vec![0; CARD_LEN_MOST];
