@@ -72,7 +72,7 @@ pub const COMMANDS: &[Command] = &[
             EITHER_K,
             OR_TICKS,
             SEED,
-            either("--round R", "the card's next round: from 1 to 2^(K+1), by --ticks among the last N + 1 of these. This or --paid"),
+            either("--round R", "the next round: from 1 to 2^(K+1), with N ticks one of the last N + 1. This or --paid"),
             may("--paid P", "the ticks that the post has paid; the card goes on with the next one. This or --round"),
             SCHEDULE,
             JSON,
