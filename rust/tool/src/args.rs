@@ -2,7 +2,7 @@
 
 use crate::help::{Command, COMMANDS};
 use crate::say::{out, Answer, Done, Json, Trouble};
-use perchmellow::{level, Refusal, AES, K_MOST, MD5, OPTIMAL, RUSHING, SPEED_1, SPEED_2};
+use perchmellow::{level, start_ticks, Refusal, AES, K_MOST, MD5, OPTIMAL, RUSHING, SPEED_1, SPEED_2};
 use std::ffi::{OsStr, OsString};
 use std::path::Path;
 
@@ -17,11 +17,11 @@ pub enum Size {
 }
 
 impl Size {
-    /// The k of the card's record.
-    pub fn k(self) -> Result<u32, Refusal> {
+    /// The k of the card's record. Ticks that no card has are refused as by the calls that take them: function, schedule, ticks.
+    pub fn k(self, function: u32, schedule: u32) -> Result<u32, Refusal> {
         match self {
             Size::K(k) => Ok(k),
-            Size::Ticks(ticks) => level(ticks),
+            Size::Ticks(ticks) => level(ticks).or_else(|refusal| start_ticks(function, ticks, schedule, &[], &mut []).and(Err(refusal))),
         }
     }
 

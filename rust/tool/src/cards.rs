@@ -54,14 +54,17 @@ pub fn rebuild(args: &Args) -> Done {
     };
     let seed = value(Path::new(args.needed("--seed-file")?))?;
     let asked = || Asked::new(function, size).schedule(schedule).value("seed", &seed);
-    let k = size.k().map_err(|refusal| asked().refused("rebuild", refusal))?;
-    let first = (2 << k.min(K_MOST)) - size.ticks();
-    let round = round.or(paid.map(|paid| first.saturating_add(paid))).unwrap_or(0);
+    let k = size.k(function, schedule).map_err(|refusal| asked().refused("rebuild", refusal))?;
+    let paying = (2 << k.min(K_MOST)) - size.ticks();
+    let round = round.or(paid.map(|paid| paying.saturating_add(paid))).unwrap_or(0);
+    let first = if let Size::Ticks(_) = size { paying } else { 1 };
     let mut record = vec![0; CARD_LEN_MOST];
-    perchmellow::rebuild(function, k, schedule, round, &seed, &mut record).map_err(|refusal| {
+    // A round before the card's first is one that the card does not have, and the call refuses round 0 when it comes to it.
+    let asked_for = if round < first { 0 } else { round };
+    perchmellow::rebuild(function, k, schedule, asked_for, &seed, &mut record).map_err(|refusal| {
         let range = match paid {
             Some(paid) => format!("{paid} are said to be paid of {}", count(size.ticks(), "tick", "ticks")),
-            None => round_range(k, round),
+            None => round_range(size, first, k, round),
         };
         asked().and(Refusal::BadRecord, range).refused("rebuild", refusal)
     })?;
@@ -71,8 +74,12 @@ pub fn rebuild(args: &Args) -> Done {
     Ok(0)
 }
 
-fn round_range(k: u32, round: u32) -> String {
-    format!("the round is {round}, and for k = {k} it is from 1 to {}", 2u64 << k.min(40))
+fn round_range(size: Size, first: u32, k: u32, round: u32) -> String {
+    let card = match size {
+        Size::K(k) => format!("k = {k}"),
+        Size::Ticks(ticks) => count(ticks, "tick", "ticks"),
+    };
+    format!("the round is {round}, and for {card} it is from {first} to {}", 2u64 << k.min(40))
 }
 
 /// What is said of a card's record that has just been written.
@@ -220,7 +227,7 @@ pub fn positions(args: &Args) -> Done {
     let (k, schedule, round) = (args.k()?, args.schedule()?, args.number("--round")?.unwrap_or(0));
     let mut list = [0; POSITIONS_MOST];
     let listed = perchmellow::positions(k, schedule, round, &mut list).map_err(|refusal| {
-        Asked::of_k(k).schedule(schedule).and(Refusal::BadRecord, round_range(k, round)).refused("positions", refusal)
+        Asked::of_k(k).schedule(schedule).and(Refusal::BadRecord, round_range(Size::K(k), 1, k, round)).refused("positions", refusal)
     })?;
     let held = &list[..listed.held as usize];
     let values = count(listed.held, "value", "values");

@@ -21,19 +21,25 @@ pub struct Choice {
     pub form: &'static str,
     pub words: &'static str,
     pub needed: bool,
+    /// It or the next one is needed, and not both.
+    either: bool,
 }
 
 const fn needed(form: &'static str, words: &'static str) -> Choice {
-    Choice { form, words, needed: true }
+    Choice { form, words, needed: true, either: false }
 }
 
 const fn may(form: &'static str, words: &'static str) -> Choice {
-    Choice { form, words, needed: false }
+    Choice { form, words, needed: false, either: false }
+}
+
+const fn either(form: &'static str, words: &'static str) -> Choice {
+    Choice { form, words, needed: false, either: true }
 }
 
 const FUNCTION: Choice = needed("--function F", "md5 or aes, or the number 0 or 1");
 const K: Choice = needed("--k K", "the card has 2^K ticks; K from 0 to 20");
-const EITHER_K: Choice = may("--k K", "the card has 2^K ticks; K from 0 to 20. This or --ticks");
+const EITHER_K: Choice = either("--k K", "the card has 2^K ticks; K from 0 to 20. This or --ticks");
 const OR_TICKS: Choice = may("--ticks N", "the card has N ticks; N from 1 to 1048576. This or --k");
 const SCHEDULE: Choice = may("--schedule S", "rushing, speed-1, speed-2 or optimal, or 0 to 3; optimal if not given");
 const SEED: Choice = needed("--seed-file FILE", "the seed in 32 hex digits; - reads standard input");
@@ -66,7 +72,7 @@ pub const COMMANDS: &[Command] = &[
             EITHER_K,
             OR_TICKS,
             SEED,
-            may("--round R", "the round, from 1 to 2^(K+1), K being the least with N ticks in it. This or --paid"),
+            either("--round R", "the next round: from 1 to 2^(K+1), with N ticks one of the last N + 1. This or --paid"),
             may("--paid P", "the ticks that the post has paid; the card goes on with the next one. This or --round"),
             SCHEDULE,
             JSON,
@@ -234,9 +240,17 @@ impl Choice {
 impl Command {
     pub fn usage(&self) -> String {
         let operands = if self.operands.is_empty() { String::new() } else { format!(" {}", self.operands) };
-        let option = |o: &Choice| if o.needed { format!(" {}", o.form) } else { format!(" [{}]", o.form) };
         let mut lines = vec![format!("usage: perchmellow {}{operands}", self.name)];
-        for option in self.options.iter().map(option) {
+        let mut options = self.options.iter();
+        while let Some(option) = options.next() {
+            let option = match (option.needed, options.as_slice().first().filter(|_| option.either)) {
+                (true, _) => format!(" {}", option.form),
+                (false, None) => format!(" [{}]", option.form),
+                (false, Some(other)) => {
+                    options.next();
+                    format!(" ({} | {})", option.form, other.form)
+                }
+            };
             match lines.last_mut() {
                 Some(line) if line.len() + option.len() <= WIDTH => line.push_str(&option),
                 _ => lines.push(format!("      {option}")),

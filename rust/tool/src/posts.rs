@@ -5,7 +5,7 @@ use crate::files::{read, shown, value, Locked};
 use crate::record::{Kind, Read};
 use crate::refused::Asked;
 use crate::say::{count, Answer, Done, Json, Trouble, NO};
-use perchmellow::{Refusal, POST_LEN};
+use perchmellow::{Refusal, OPTIMAL, POST_LEN};
 use std::path::Path;
 
 pub fn enrol(args: &Args) -> Done {
@@ -13,7 +13,7 @@ pub fn enrol(args: &Args) -> Done {
     let (function, size) = (args.function()?, args.size()?);
     let anchor = value(Path::new(args.needed("--anchor-file")?))?;
     let refused = |refusal| Asked::new(function, size).value("anchor", &anchor).refused("enrol", refusal);
-    let k = size.k().map_err(refused)?;
+    let k = size.k(function, OPTIMAL).map_err(refused)?;
     let mut record = [0; POST_LEN];
     perchmellow::enrol(function, k, &anchor, &mut record).map_err(refused)?;
     Locked::place(path)?.write_first(&record)?;

@@ -24,7 +24,7 @@ struct Summary {
     offered: u32,
     credited: u32,
     /// By the refusal's number.
-    refused: [u32; 10],
+    refused: [u32; 11],
     hashes: u32,
     most_paying: u32,
 }
@@ -92,7 +92,7 @@ fn from_seed(args: &Args) -> Result<(Vec<u8>, Vec<u8>), Trouble> {
     let anchor = anchored(function, size, &seed)?;
     let mut post = vec![0; POST_LEN];
     let refused = |refusal| Asked::new(function, size).refused("enrol", refusal);
-    size.k().and_then(|k| enrol(function, k, &anchor, &mut post)).map_err(refused)?;
+    size.k(function, schedule).and_then(|k| enrol(function, k, &anchor, &mut post)).map_err(refused)?;
     Ok((card, post))
 }
 

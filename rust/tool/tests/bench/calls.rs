@@ -99,7 +99,8 @@ fn a_rebuild_says_where_the_card_stands() {
     assert_eq!(rebuilt("c.pm", &["--ticks", "300", "--paid", "300"]), "all its rounds are run\n");
     assert_eq!(rebuilt("d.pm", &["--ticks", "300", "--paid", "0"]), "its next round is 724\n");
     assert_eq!(rebuilt("e.pm", &["--k", "9", "--round", "1"]), "its next round is 1\n");
-    assert_eq!(rebuilt("f.pm", &["--ticks", "300", "--round", "1"]), "its next round is 1, and 512 ticks are left to pay\n");
+    assert_eq!(rebuilt("f.pm", &["--ticks", "300", "--round", "724"]), "its next round is 724\n");
+    assert_eq!(rebuilt("g.pm", &["--ticks", "300", "--round", "1024"]), "all its rounds are run\n");
     assert_eq!(folder.trouble(&["rebuild", "card.pm", "--function", "md5", "--k", "2", "--round", "1", "--seed-file", "seed.hex"]).0, 7);
 }
 
@@ -252,13 +253,19 @@ fn each_refusal_has_its_status_and_its_sentence() {
     refused(4, "the seed has 30 hex digits", &sold("1", "300", "3", "short.hex"));
     refused(10, "the number of ticks is 0", &["anchor", "--function", "0", "--ticks", "0", "--seed-file", "seed.hex"]);
     refused(10, "the number of ticks is 0", &["enrol", "new.pm", "--function", "0", "--ticks", "0", "--anchor-file", "anchor.hex"]);
+    refused(1, "the function is 2", &["enrol", "new.pm", "--function", "2", "--ticks", "0", "--anchor-file", "short.hex"]);
     refused(10, "the number of ticks is 0", &["ride", "--function", "0", "--ticks", "0", "--seed-file", "seed.hex"]);
     let rebuild = |size, number, seed, at, round| ["rebuild", "new.pm", "--function", "md5", size, number, "--seed-file", seed, at, round];
     refused(2, "k is 21", &rebuild("--k", "21", "short.hex", "--round", "0"));
     refused(2, "k is 4294967295", &rebuild("--k", "4294967295", "short.hex", "--paid", "0"));
     refused(10, "the number of ticks is 0", &rebuild("--ticks", "0", "short.hex", "--round", "0"));
+    refused(3, "the schedule is 4", &[&rebuild("--ticks", "0", "short.hex", "--round", "0")[..], &["--schedule", "4"]].concat());
+    let unknown = ["rebuild", "new.pm", "--function", "2", "--schedule", "4", "--ticks", "0", "--seed-file", "short.hex", "--round", "0"];
+    refused(1, "the function is 2", &unknown);
     refused(5, "the round is 0, and for k = 4 it is from 1 to 32", &rebuild("--k", "4", "short.hex", "--round", "0"));
-    refused(5, "the round is 1025, and for k = 9 it is from 1 to 1024", &rebuild("--ticks", "300", "seed.hex", "--round", "1025"));
+    refused(5, "the round is 1025, and for 300 ticks it is from 724 to 1024", &rebuild("--ticks", "300", "seed.hex", "--round", "1025"));
+    refused(5, "the round is 723, and for 300 ticks it is from 724 to 1024", &rebuild("--ticks", "300", "short.hex", "--round", "723"));
+    refused(5, "the round is 3, and for 1 tick it is from 1 to 2", &rebuild("--ticks", "1", "seed.hex", "--round", "3"));
     refused(5, "301 are said to be paid of 300 ticks", &rebuild("--ticks", "300", "seed.hex", "--paid", "301"));
     refused(5, "4294967295 are said to be paid of 16 ticks", &rebuild("--k", "4", "seed.hex", "--paid", "4294967295"));
     refused(4, "the seed has 30 hex digits", &rebuild("--k", "4", "short.hex", "--round", "32"));

@@ -40,6 +40,7 @@ fn bad_usage_is_2_with_the_line_of_help_that_it_fails() {
         (&["start", "new.pm", "--function", "md5", "--k", "-2", "--seed-file", "seed.hex"], "  --k K "),
         (&["start", "new.pm", "--function", "md5", "--k", "2", "--seed-file", "seed.hex", "--schedule", "fast"], "  --schedule S "),
         (&["start", "new.pm", "--function", "md5", "--seed-file", "seed.hex"], "--k or --ticks is wanted.\n  --k K "),
+        (&["start", "new.pm"], "usage: perchmellow start CARD --function F (--k K | --ticks N) --seed-file FILE [--schedule S]\n"),
         (
             &[&start[..], &["--function", "md5", "--ticks", "4"]].concat(),
             "--ticks cannot stand beside --k; give one of the two.\n  --ticks N ",
