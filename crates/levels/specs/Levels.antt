@@ -119,3 +119,18 @@ ticks-are-rounds-left n few = omega (arith, level-is-the-least n few .enough, po
 pub first-round-of-a-power : (k : ℕ) → k ≤ 20 → firstRound (2 ^ k) ≡ 2 ^ k
 unfolding firstRound
 first-round-of-a-power k small = rw (level-of-a-power k small) (omega (arith, pow-succ' 2 k))
+
+-- ---- on both sides of the edges
+
+pub levels-at-the-edges : (level 1 ≡ 0) × (level 2 ≡ 1) × (level 3 ≡ 2) × (level 4 ≡ 2) × (level 5 ≡ 3) × (level 300 ≡ 9)
+    × (level 65536 ≡ 16) × (level 65537 ≡ 17) × (level 1048575 ≡ 20) × (level 1048576 ≡ 20)
+unfolding level leastFrom
+levels-at-the-edges = (refl, refl, refl, refl, refl, refl, refl, refl, refl, refl)
+
+pub first-rounds-at-the-edges : (firstRound 1 ≡ 1) × (firstRound 2 ≡ 2) × (firstRound 3 ≡ 5) × (firstRound 300 ≡ 724) × (firstRound 1048576 ≡ 1048576)
+unfolding firstRound level leastFrom
+first-rounds-at-the-edges = (refl, refl, refl, refl, refl)
+
+pub allowed-at-the-edges : (allowed 0 ≡ false) × (allowed 1 ≡ true) × (allowed 1048576 ≡ true) × (allowed 1048577 ≡ false)
+unfolding allowed
+allowed-at-the-edges = (refl, refl, refl, refl)

@@ -1,7 +1,7 @@
 // The slots of a card's record filled anew from its seed: once along the chain, from the seed up to the highest position that is held,
 // with a value stored at each position on the way.
 ghost use mathlib.Core.Path.{_≡_};
-ghost use Prim.Native.Nat.{_+_, _-_, _≤_};
+ghost use Prim.Native.Nat.{_-_, _≤_};
 ghost use lib.Dec.{T};
 ghost use lib.ListN.{length};
 ghost use Rattle.oneway.specs.Step.{known, width, step};
