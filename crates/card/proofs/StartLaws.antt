@@ -279,12 +279,12 @@ module _ (function k s r : ℕ) (seed card : List ℕ) where
       pub list-within : count ≤ length list′
       list-within = omega (arith, counted, few, ap length left, over-length held list (omega (arith, few, long)), long)
 
-      pub rebuilt-begins : Beginning head (take count list′)
+      pub rebuilt-begins : (x : ℕ) → Beginning (headAt function k s x) (take count list′)
       unfolding slotsSize
-      rebuilt-begins =
+      rebuilt-begins x =
           rw there
           (record {
-            numbered = passed .numbered;
+            numbered = record { known = is-known; small = passed .numbered .small; schedule = passed .numbered .schedule };
             top = 2 ^ k;
             falls = positions-fall-strictly s (passed .numbered .schedule) k r;
             few = mul-le-mul-left (widthOf head) fits-slots;

@@ -1,5 +1,6 @@
 -- `card::anchor` meets its contract. Assumes nothing.
 use mathlib.Core.Path.{sym, _∙_}
+use native.Mathlib.Omega.{arith}
 use borrow.Author.Needs.{needs}
 use Rattle.card.proofs.StartLaws.{known-holds}
 use Rattle.card.proofs.AnchorLaws.{anchor-1, anchor-2, anchor-put}
@@ -10,7 +11,7 @@ known-requires : tie.Need-known-requires
 known-requires c κs = search needs
 
 returns : tie.Need-returns
-returns c = anchor-2 _ _ _ _ _ (c .before .before .known .ensures) (c .before .if1 .taken) (c .if2 .taken)
+returns c = anchor-2 _ _ _ _ _ (c .before .before .known .ensures) (c .before .if1 .taken) (omega (arith, c .if2 .taken))
 
 power-requires : tie.Need-power-requires
 power-requires c κs = search needs
@@ -31,7 +32,7 @@ returns-2 c =
     let at-if2 = at-power .before in
     let at-if1 = at-if2 .before in
     let at-known = at-if1 .before in
-    anchor-put _ _ _ _ _ (at-known .known .ensures) (at-if1 .if1 .taken) (at-if2 .if2 .left) _ (at-power .power .ensures) _ _ (at-put-element .put-element .ensures)
+    anchor-put _ _ _ _ _ (at-known .known .ensures) (at-if1 .if1 .taken) (omega (arith, at-if2 .if2 .left)) _ (at-power .power .ensures) _ _ (at-put-element .put-element .ensures)
 
 returns-3 : tie.Need-returns-3
 returns-3 c = anchor-1 _ _ _ _ _ (c .before .known .ensures) (c .if1 .left)

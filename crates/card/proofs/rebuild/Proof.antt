@@ -32,7 +32,7 @@ array-share-prefix-held c =
     let at-if1 = at-positions .before .before in
     let at-known = at-if1 .before in
     let start = at-known .before .before .before in
-    list-within (start .args .function) (start .args .k) (start .args .schedule) (start .args .round) (start .args .seed .now) (start .args .card .now) _ (at-known .known .ensures) (at-if1 .if1 .taken) _ refl _ _ _ (rw (at-listed2 .listed2 .given .1) at (at-positions .positions .ensures))
+    list-within (start .args .function) (start .args .k) _ (start .args .round) (start .args .seed .now) (start .args .card .now) _ (at-known .known .ensures) (at-if1 .if1 .taken) _ refl _ _ _ (rw (at-listed2 .listed2 .given .1) at (at-positions .positions .ensures))
 
 slice-aggregate-begin : tie.Need-slice-aggregate-begin
 slice-aggregate-begin c =
@@ -41,7 +41,7 @@ slice-aggregate-begin c =
     let at-if1 = at-positions .before .before in
     let at-known = at-if1 .before in
     let start = at-known .before .before .before in
-    sym (length-take-le _ _ (list-within (start .args .function) (start .args .k) (start .args .schedule) (start .args .round) (start .args .seed .now) (start .args .card .now) _ (at-known .known .ensures) (at-if1 .if1 .taken) _ refl _ _ _ (rw (at-listed2 .listed2 .given .1) at (at-positions .positions .ensures))))
+    sym (length-take-le _ _ (list-within (start .args .function) (start .args .k) _ (start .args .round) (start .args .seed .now) (start .args .card .now) _ (at-known .known .ensures) (at-if1 .if1 .taken) _ refl _ _ _ (rw (at-listed2 .listed2 .given .1) at (at-positions .positions .ensures))))
 
 begin-requires : tie.Need-begin-requires
 begin-requires c κs =
@@ -50,7 +50,7 @@ begin-requires c κs =
     let at-if1 = at-positions .before .before in
     let at-known = at-if1 .before in
     let start = at-known .before .before .before in
-    rebuilt-begins (start .args .function) (start .args .k) (start .args .schedule) (start .args .round) (start .args .seed .now) (start .args .card .now) _ (at-known .known .ensures) (at-if1 .if1 .taken) _ refl _ _ _ (rw (at-listed2 .listed2 .given .1) at (at-positions .positions .ensures))
+    rebuilt-begins (start .args .function) (start .args .k) (start .args .schedule) (start .args .round) (start .args .seed .now) (start .args .card .now) _ (at-known .known .ensures) (at-if1 .if1 .taken) _ refl _ _ _ (rw (at-listed2 .listed2 .given .1) at (at-positions .positions .ensures)) _
 
 returns : tie.Need-returns
 returns c =

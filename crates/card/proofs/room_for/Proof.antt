@@ -1,4 +1,5 @@
 -- `card::room_for` meets its contract. Assumes nothing.
+use native.Mathlib.Omega.{arith}
 use borrow.Author.Needs.{needs}
 use Rattle.card.proofs.StartLaws.{seed-strange, card-short, card-long}
 use Rattle.card.proofs.room_for.Statement.{statement}
@@ -25,7 +26,7 @@ returns-2 c =
     let at-if1 = at-slots-size .before in
     let at-width = at-if1 .before in
     let start = at-width .before .before .before in
-    card-short (start .args .seed .now) (start .args .card .now) (start .args .head) _ (at-width .width .ensures) (at-if1 .if1 .left) _ (at-slots-size .slots-size .ensures) (c .if2 .taken)
+    card-short (start .args .seed .now) (start .args .card .now) (start .args .head) _ (at-width .width .ensures) (at-if1 .if1 .left) _ (at-slots-size .slots-size .ensures) (omega (arith, c .if2 .taken))
 
 returns-3 : tie.Need-returns-3
 returns-3 c =
@@ -33,7 +34,7 @@ returns-3 c =
     let at-if1 = at-slots-size .before in
     let at-width = at-if1 .before in
     let start = at-width .before .before .before in
-    card-long (start .args .seed .now) (start .args .card .now) (start .args .head) _ (at-width .width .ensures) (at-if1 .if1 .left) _ (at-slots-size .slots-size .ensures) (c .if2 .left)
+    card-long (start .args .seed .now) (start .args .card .now) (start .args .head) _ (at-width .width .ensures) (at-if1 .if1 .left) _ (at-slots-size .slots-size .ensures) (omega (arith, c .if2 .left))
 
 pub room-for-spec : {M : Type 1} → statement M
 room-for-spec =

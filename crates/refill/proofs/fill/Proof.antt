@@ -36,14 +36,14 @@ climb-requires c κs =
     let at-test = c .before .before in
     let at-loop = at-test .before in
     let start = at-loop .before .before .before .before .before in
-    (start .pre .known, (at-loop .loop .inv .walks .sized ∙ start .pre .seeded, fill-up _ _ _ _ (start .pre) _ _ _ _ _ (at-loop .loop .inv) (at-test .loop-test .taken)))
+    (start .pre .known, (at-loop .loop .inv .walks .sized ∙ start .pre .seeded, fill-up _ _ _ _ (start .pre) _ _ _ _ _ (at-loop .loop .inv) (omega (arith, at-test .loop-test .taken))))
 
 mul-put : tie.Need-mul-put Inv-loop μ-loop
 mul-put c =
     let at-test = c .before .before .before .before .before .before in
     let at-loop = at-test .before in
     let start = at-loop .before .before .before .before .before in
-    omega (arith, fill-slot _ _ _ _ (start .pre) _ _ _ _ _ (at-loop .loop .inv) (at-test .loop-test .taken))
+    omega (arith, fill-slot _ _ _ _ (start .pre) _ _ _ _ _ (at-loop .loop .inv) (omega (arith, at-test .loop-test .taken)))
 
 put-requires : tie.Need-put-requires Inv-loop μ-loop
 put-requires c κs =
@@ -51,7 +51,7 @@ put-requires c κs =
     let at-test = at-climb .before .before .before in
     let at-loop = at-test .before in
     let start = at-loop .before .before .before .before .before in
-    fill-room _ _ _ _ (start .pre) _ _ _ _ _ (at-loop .loop .inv) (at-test .loop-test .taken) _ (at-climb .climb .ensures .1)
+    fill-room _ _ _ _ (start .pre) _ _ _ _ _ (at-loop .loop .inv) (omega (arith, at-test .loop-test .taken)) _ (at-climb .climb .ensures .1)
 
 loop-less : tie.Need-loop-less Inv-loop μ-loop
 loop-less c = omega arith
@@ -63,7 +63,7 @@ loop-again c =
     let at-test = at-climb .before .before .before in
     let at-loop = at-test .before in
     let start = at-loop .before .before .before .before .before in
-    rw (at-climb .climb .ensures .0) (filling-next _ _ _ _ (start .pre) _ _ _ _ _ (at-loop .loop .inv) (at-test .loop-test .taken) _ (at-climb .climb .ensures .1) _ _ (at-put .put .ensures))
+    rw (at-climb .climb .ensures .0) (filling-next _ _ _ _ (start .pre) _ _ _ _ _ (at-loop .loop .inv) (omega (arith, at-test .loop-test .taken)) _ (at-climb .climb .ensures .1) _ _ (at-put .put .ensures))
 
 same-length : tie.Need-same-length Inv-loop μ-loop
 same-length c = c .before .loop .inv .walks .sized
@@ -75,7 +75,7 @@ returns : tie.Need-returns Inv-loop μ-loop
 returns c =
     let at-loop = c .before in
     let start = at-loop .before .before .before .before .before in
-    filled _ _ _ _ (start .pre) _ _ _ _ _ (at-loop .loop .inv) (c .loop-test .left)
+    filled _ _ _ _ (start .pre) _ _ _ _ _ (at-loop .loop .inv) (omega (arith, c .loop-test .left))
 
 pub fill-spec : {M : Type 1} → statement M
 fill-spec =
