@@ -4,3 +4,4 @@ pub mod Values
 pub mod Wide
 pub mod Parts
 pub mod Written
+pub mod Same

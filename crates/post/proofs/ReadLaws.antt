@@ -10,6 +10,7 @@ use borrow.Rule.Slice.PartMut.{putMid}
 use lib.Dec.{eqb, ltb}
 use lib.ListN.{length, take, drop, getD, length-append, length-drop}
 use lib.Seq.{drop-drop, length-take-le, take-append-add, drop-append-add}
+use Rattle.lists.specs.Same.{same}
 use Rattle.lists.specs.Parts.{part-tail, part-length, put-tail}
 use Rattle.lists.specs.Writing.{over, over-length}
 use Rattle.oneway.specs.Laws.{width-small}
@@ -22,7 +23,6 @@ use Rattle.post.specs.declared.Inspected.{Inspected}
 use Rattle.post.specs.declared.Inspected.the-variants.{Refused, Post}
 use Rattle.post.specs.Record.{chainOf, widthOf, headBytes, postBytes, marked, headOf, anchorOf, heldValue}
 use Rattle.post.specs.Refused.{passing, numbers, inspectPaid, inspectOf}
-use Rattle.post.specs.Search.{same}
 use Rattle.post.specs.Steps.{Puttable}
 
 -- ---- marked

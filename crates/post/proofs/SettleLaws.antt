@@ -6,6 +6,7 @@ use Prim.Native.Nat.{ℕ, _^_, _≤_, _<_}
 use native.Mathlib.Omega.{arith}
 use borrow.Author.Tests.{lt-ltb, le-ltb, eq-eqb, ne-eqb}
 use lib.ListN.{length}
+use Rattle.lists.specs.Same.{same}
 use Rattle.oneway.specs.Step.{step}
 use Rattle.oneway.specs.declared.Chain.{Chain}
 use Rattle.pebbling.specs.Promises.{Power}
@@ -18,7 +19,6 @@ use Rattle.post.specs.declared.Inspected.the-variants.{Refused, Post}
 use Rattle.post.specs.declared.SettleAnswer.the-variants.{Yes, No, Refused as NoVerdict}
 use Rattle.post.specs.Record.{chainOf, widthOf}
 use Rattle.post.specs.Refused.{passing, numbers, settleReady, settleJudged}
-use Rattle.post.specs.Search.{same}
 use Rattle.post.specs.Promises.{arrivesOf, settleMustSay, Settled}
 
 -- ---- settle_ready

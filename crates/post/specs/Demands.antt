@@ -8,6 +8,7 @@ use borrow.Author.Tests.{le-ltb, eq-eqb, ne-eqb}
 use lib.Dec.{eqb}
 use lib.ListN.{length, drop, length-drop}
 use lib.Seq.{length-take-le}
+use Rattle.lists.specs.Same.{same, same-eq, eq-same}
 use Rattle.records.specs.Chains.{chain-add}
 use Rattle.lists.specs.Writing.{over}
 use Rattle.oneway.specs.Laws.{width-small}
@@ -23,8 +24,8 @@ use Rattle.post.specs.declared.Inspected.{Inspected}
 use Rattle.post.specs.declared.Inspected.the-variants.{Refused, Post}
 use Rattle.post.specs.Record.{size, chainOf, widthOf, postBytes, headOf, anchorOf, heldValue}
 use Rattle.post.specs.Refused.{numbers, enrolJudged, inspectOf, gapStrange, ready, offerJudged, settleReady, settleJudged}
-use Rattle.post.specs.Search.{same, fewest, least}
-use Rattle.post.specs.Fewest.{same-eq, eq-same, First, least-found, least-some}
+use Rattle.post.specs.Search.{fewest, least}
+use Rattle.post.specs.Fewest.{First, least-found, least-some}
 use Rattle.post.specs.Sound.{Numbered, sound, Searchable, searchable, Enrollable, enrollable}
 use Rattle.post.specs.Kept.{paid-fits, Writable, written-head, written-anchor, written-held, written-passes}
 use Rattle.post.specs.Promises.{unpaid, judgedEnrolSays, judgedEnrolPost, enrolMustSay, enrolPost, limitOf, searchFinds, credited, foundSays, foundPost, judgedOfferSays, judgedOfferPost, offerMustSay, offerPost, arrivesOf, verdict, settleMustSay}

@@ -5,12 +5,13 @@ use mathlib.Core.List.{List, [], _∷_}
 use Prim.Native.Nat.{ℕ, suc}
 use lib.Dec.{eqb}
 use lib.ListN.{getD}
+use Rattle.lists.specs.Same.{same}
 use Rattle.records.specs.Numbers.{number}
 use Rattle.pebbling.specs.Recursion.{chain}
 use Rattle.post.specs.declared.Head.{Head}
 use Rattle.post.specs.declared.Found.the-variants.{At, Nothing}
 use Rattle.post.specs.Record.{headBytes, postBytes, headOf, marked}
-use Rattle.post.specs.Search.{same, least, fewest}
+use Rattle.post.specs.Search.{least, fewest}
 
 -- the first counts, and 0 is never tried
 first-counts : least 5 (λ (g : ℕ). eqb g 0 || (eqb g 3 || eqb g 5)) ≡ At 3

@@ -1,42 +1,14 @@
 -- What the search finds: the first that fits, and nothing only where none fits. Assumes nothing.
 use mathlib.Core.Path.{_≡_, refl, sym, ap, _∙_}
-use mathlib.Core.Bool.{Bool, true, false, cond, _&&_, true≢false}
-use mathlib.Core.List.{List, [], _∷_}
+use mathlib.Core.Bool.{Bool, true, false, cond, true≢false}
 use Prim.Native.Nat.{ℕ, zero, suc, _≤_, _<_}
 use native.Mathlib.Nat.{eq-or-lt-of-le}
 use native.Mathlib.Omega.{arith}
 use mathlib.Core.Logic.{⊎-elim}
-use borrow.Author.Tests.{eq-eqb, eqb-true}
-use lib.Dec.{eqb}
 use Rattle.pebbling.specs.Len.{lt-or-le}
 use Rattle.post.specs.declared.Found.{Found}
 use Rattle.post.specs.declared.Found.the-variants.{At, Nothing}
-use Rattle.post.specs.Search.{same, orElse, least}
-
--- ---- same bytes are equal lists
-
-pub same-refl : (a : List ℕ) → same a a ≡ true
-unfolding same
-same-refl [] = refl
-same-refl (x ∷ a) = rw (eq-eqb x x refl) (same-refl a)
-
-both : (a b : Bool) → (a && b) ≡ true → (a ≡ true) × (b ≡ true)
-both true b e = (refl, e)
-both false b e = absurd (true≢false (sym e))
-
-pub same-eq : (a b : List ℕ) → same a b ≡ true → a ≡ b
-unfolding same
-same-eq [] [] e = refl
-same-eq [] (y ∷ b) e = absurd (true≢false (sym e))
-same-eq (x ∷ a) [] e = absurd (true≢false (sym e))
-same-eq (x ∷ a) (y ∷ b) e =
-    let h = both (eqb x y) (same a b) e in
-    let p : x ≡ y = eqb-true x y (h .0) in
-    let q : a ≡ b = same-eq a b (h .1) in
-    cc
-
-pub eq-same : (a b : List ℕ) → a ≡ b → same a b ≡ true
-eq-same a b e = rw e (same-refl b)
+use Rattle.post.specs.Search.{orElse, least}
 
 -- ---- the least
 

@@ -10,6 +10,7 @@ use borrow.Author.Tests.{le-ltb, eq-eqb, ne-eqb}
 use lib.ListN.{length, drop, length-append}
 use lib.Pow.{pow-mono}
 use lib.Seq.{take-at, drop-at, drop-drop}
+use Rattle.lists.specs.Same.{same, same-refl}
 use Rattle.records.specs.Numbers.{number-read}
 use Rattle.lists.specs.Writing.{over, over-length}
 use Rattle.oneway.specs.Laws.{width-small}
@@ -18,8 +19,6 @@ use Rattle.post.specs.declared.Inspected.the-variants.{Post}
 use Rattle.post.specs.Record.{size, chainOf, widthOf, headBytes, postBytes, marked, headOf, anchorOf, heldValue}
 use Rattle.post.specs.Refused.{numbers, inspectPaid, inspectOf}
 use Rattle.post.specs.Sound.{Numbered}
-use Rattle.post.specs.Search.{same}
-use Rattle.post.specs.Fewest.{same-refl}
 
 -- ---- numbers
 

@@ -5,6 +5,7 @@ use mathlib.Core.Bool.{Bool, true, false}
 use mathlib.Core.List.{List, [], _∷_}
 use Prim.Native.Nat.{ℕ, _+_, _-_, _^_, min}
 use native.Mathlib.Omega.{arith}
+use Rattle.lists.specs.Same.{same}
 use Rattle.lists.specs.Writing.{over}
 use Rattle.oneway.specs.Step.{step}
 use Rattle.oneway.specs.declared.Chain.{Chain}
@@ -24,7 +25,7 @@ use Rattle.post.specs.declared.SettleAnswer.{SettleAnswer}
 use Rattle.post.specs.declared.SettleAnswer.the-variants.{Yes, No, Refused as NoVerdict}
 use Rattle.post.specs.Record.{chainOf, postBytes, anchorOf, heldValue}
 use Rattle.post.specs.Refused.{enrolJudged, offerJudged, settleJudged}
-use Rattle.post.specs.Search.{same, fewest}
+use Rattle.post.specs.Search.{fewest}
 
 -- ---- what the counter says: a refusal's number alone, or 0 and what there is to say
 

@@ -5,13 +5,13 @@ use mathlib.Core.List.{List}
 use Prim.Native.Nat.{ℕ, _^_}
 use lib.Dec.{eqb, ltb}
 use lib.ListN.{length}
+use Rattle.lists.specs.Same.{same}
 use Rattle.oneway.specs.Step.{known}
 use Rattle.refusals.specs.declared.Refusal.the-variants.{UnknownFunction, TooManyTicks, WrongLength, BadRecord, Spent, BadGap}
 use Rattle.post.specs.declared.Head.{Head}
 use Rattle.post.specs.declared.Inspected.{Inspected}
 use Rattle.post.specs.declared.Inspected.the-variants.{Refused, Post}
 use Rattle.post.specs.Record.{size, widthOf, marked, headOf, anchorOf, heldValue}
-use Rattle.post.specs.Search.{same}
 
 -- what has passed goes on to the next tests
 abbrev pub passing : Inspected → (Head → Inspected) → Inspected

@@ -1,18 +1,11 @@
 -- The search of an offer: the fewest steps, from 1 to a limit, that lead from a value to the one held. Assumes nothing.
-use mathlib.Core.Bool.{Bool, true, false, cond, _&&_}
-use mathlib.Core.List.{List, [], _∷_}
+use mathlib.Core.Bool.{Bool, cond}
+use mathlib.Core.List.{List}
 use Prim.Native.Nat.{ℕ, zero, suc}
-use lib.Dec.{eqb}
+use Rattle.lists.specs.Same.{same}
 use Rattle.pebbling.specs.Recursion.{chain}
 use Rattle.post.specs.declared.Found.{Found}
 use Rattle.post.specs.declared.Found.the-variants.{At, Nothing}
-
--- whether two lists hold the same bytes
-unfoldable pub same : List ℕ → List ℕ → Bool
-same [] [] = true
-same [] (y ∷ ys) = false
-same (x ∷ xs) [] = false
-same (x ∷ xs) (y ∷ ys) = eqb x y && same xs ys
 
 -- what was found, and otherwise what comes after
 abbrev pub orElse : Found → Found → Found

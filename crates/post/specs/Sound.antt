@@ -7,6 +7,7 @@ use native.Mathlib.Omega.{arith}
 use borrow.Author.Tests.{ltb-false, eqb-true, not-false}
 use lib.Dec.{T, eqb, ltb}
 use lib.ListN.{length}
+use Rattle.lists.specs.Same.{same}
 use Rattle.oneway.specs.Step.{known, width}
 use Rattle.oneway.specs.declared.Chain.{Chain}
 use Rattle.refusals.specs.declared.Refusal.{Refusal}
@@ -16,7 +17,6 @@ use Rattle.post.specs.declared.Inspected.{Inspected}
 use Rattle.post.specs.declared.Inspected.the-variants.{Refused, Post}
 use Rattle.post.specs.Record.{size, chainOf, widthOf, marked, headOf, anchorOf, heldValue}
 use Rattle.post.specs.Refused.{passing, numbers, roomFor, enrolJudged, inspectPaid, inspectOf, gapStrange, ready, offerJudged, settleReady, settleJudged}
-use Rattle.post.specs.Search.{same}
 
 -- a test that was passed
 passed-by : (b : Bool) (x : Refusal) (rest : Inspected) (h : Head) → cond b (Refused x) rest ≡ Post h → (b ≡ false) × (rest ≡ Post h)

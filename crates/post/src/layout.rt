@@ -9,7 +9,6 @@ ghost use Rattle.post.specs.Refused.{numbers, inspectPaid, inspectOf};
 ghost use Rattle.post.specs.Steps.{Puttable};
 use super::Head;
 use super::Inspected;
-use super::steps;
 use oneway::Chain;
 use records::copy;
 use records::wide;
@@ -70,7 +69,7 @@ fn inspect_paid(post: &[u8], head: Head) -> Inspected
         });
         let from = 8 + w;
         let end = from + w;
-        if steps::same(&post[from..end], &post[8..from]) {
+        if records::same(&post[from..end], &post[8..from]) {
             return Inspected::Post(head);
         }
         return Inspected::Refused(Refusal::BadRecord);

@@ -6,27 +6,11 @@ ghost use lib.ListN.{length};
 ghost use Rattle.oneway.specs.Step.{known, width, step};
 ghost use Rattle.pebbling.specs.Recursion.{chain as element};
 ghost use Rattle.post.specs.Search.{fewest};
-ghost use Rattle.post.specs.Search.{same as sameAs};
+ghost use Rattle.lists.specs.Same.{same as sameAs};
 use super::Found;
 use oneway::Chain;
+use records::same;
 use records::walk;
-
-// Whether two slices hold the same bytes.
-pub fn same(a: &[u8], b: &[u8]) -> bool
-    ensures { λ r. ⌜ r ≡ sameAs (now (a .entry)) (now (b .entry)) ⌝ }
-{
-    if a.len() != b.len() {
-        return false;
-    }
-    let mut i: usize = 0;
-    while i < a.len() {
-        if a[i] != b[i] {
-            return false;
-        }
-        i += 1;
-    }
-    true
-}
 
 // Whether n steps lead from the value to another one. It steps the value in place.
 pub fn leads(chain: Chain, n: u32, to: &[u8], value: &mut [u8]) -> bool

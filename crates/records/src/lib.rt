@@ -1,8 +1,9 @@
-// What the card's and the post's records share: bytes copied, numbers of four bytes read and written, and steps along a chain.
+// What the card's and the post's records share: bytes copied and compared, numbers of four bytes read and written, and steps along a chain.
 ghost use mathlib.Core.Path.{_≡_};
 ghost use Prim.Native.Nat.{_+_, _≤_};
 ghost use lib.Dec.{T};
 ghost use lib.ListN.{length};
+ghost use Rattle.lists.specs.Same.{same as sameAs};
 ghost use Rattle.lists.specs.Writing.{over};
 ghost use Rattle.lists.specs.Written.{Written};
 ghost use Rattle.oneway.specs.Step.{known, width, step, littleEndian};
@@ -27,6 +28,23 @@ pub fn put(piece: &[u8], at: usize, text: &mut [u8]) -> usize
 {
     copy(piece, &mut text[at..]);
     at + piece.len()
+}
+
+// Whether two slices hold the same bytes.
+pub fn same(a: &[u8], b: &[u8]) -> bool
+    ensures { λ r. ⌜ r ≡ sameAs (now (a .entry)) (now (b .entry)) ⌝ }
+{
+    if a.len() != b.len() {
+        return false;
+    }
+    let mut i: usize = 0;
+    while i < a.len() {
+        if a[i] != b[i] {
+            return false;
+        }
+        i += 1;
+    }
+    true
 }
 
 // A byte as a number.

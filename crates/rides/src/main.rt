@@ -293,15 +293,6 @@ fn run_up_to(round: u32, card: &mut [u8; CARD]) {
     }
 }
 
-fn same(a: &[u8; CARD], b: &[u8; CARD]) -> bool {
-    for i in 0..CARD {
-        if a[i] != b[i] {
-            return false;
-        }
-    }
-    true
-}
-
 // Whether a rebuild before a round leaves the very bytes of the card that was run there.
 fn rebuilds(function: u32, schedule: u32, round: u32, card: &[u8; CARD]) -> bool {
     let seed = SEED;
@@ -310,7 +301,7 @@ fn rebuilds(function: u32, schedule: u32, round: u32, card: &[u8; CARD]) -> bool
         b"rebuild",
         card::rebuild(function, BESIDE_K, schedule, round, &seed, &mut rebuilt),
     );
-    agreed && same(&rebuilt, card)
+    agreed && records::same(&rebuilt, card)
 }
 
 // A card is run to its end, and rebuilds are made beside it: how many left its bytes.

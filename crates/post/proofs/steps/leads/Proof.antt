@@ -1,9 +1,9 @@
 -- `post::steps::leads` meets its contract. Assumes nothing.
 use mathlib.Core.Path.{ap, _∙_}
 use borrow.Author.Needs.{needs}
-use Rattle.post.specs.Search.{same}
 use mathlib.Core.List.{List}
 use Prim.Native.Nat.{ℕ}
+use Rattle.lists.specs.Same.{same}
 use Rattle.post.proofs.steps.leads.Statement.{statement}
 use Rattle.post.proofs.steps.leads.Tie as tie
 

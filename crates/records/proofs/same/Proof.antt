@@ -1,12 +1,12 @@
--- `post::steps::same` meets its contract. The loop's invariant: what is left to compare decides. Assumes nothing.
+-- `records::same` meets its contract. The loop's invariant: what is left to compare decides. Assumes nothing.
 use Prim.Native.Nat.{_-_}
 use mathlib.Core.Path.{refl}
 use native.Mathlib.Omega.{arith}
 use lib.ListN.{length}
 use borrow.Author.Needs.{needs}
-use Rattle.post.proofs.StepLaws.{Comparing, same-lengths, comparing-next, comparing-stops, compared}
-use Rattle.post.proofs.steps.same.Statement.{statement}
-use Rattle.post.proofs.steps.same.Tie as tie
+use Rattle.records.proofs.SameLaws.{Comparing, same-lengths, comparing-next, comparing-stops, compared}
+use Rattle.records.proofs.same.Statement.{statement}
+use Rattle.records.proofs.same.Tie as tie
 
 abbrev Inv-loop : tie.InvT-loop
 Inv-loop a b i₀ i = Comparing a b i
