@@ -7,10 +7,10 @@ use Prim.Native.Nat.{ℕ, _≤_, _<_}
 use native.Mathlib.Omega.{arith}
 use borrow.Author.Tests.{lt-ltb, le-ltb, eq-eqb, ne-eqb}
 use lib.ListN.{length, take, drop}
-use lib.Seq.{take-at, drop-at}
+use lib.Seq.{drop-at}
 use Rattle.records.specs.Chains.{chain-length}
 use Rattle.levels.specs.Levels.{allowed}
-use Rattle.lists.specs.Writing.{over}
+use Rattle.lists.specs.Writing.{over, over-taken}
 use Rattle.oneway.specs.Step.{known, width, step}
 use Rattle.oneway.specs.declared.Chain.{Chain}
 use Rattle.pebbling.specs.Promises.{Power}
@@ -39,7 +39,7 @@ module _ (c : Chain) (n : ℕ) (seed out : List ℕ) (w : ℕ) (wide : w ≡ wid
 
     module _ (s : w ≤ length out) (mid : List ℕ) (copied : mid ≡ over seed out) where
       front : take w mid ≡ seed
-      front = ap (take w) copied ∙ take-at seed (drop (length seed) out) w l
+      front = over-taken seed out mid w l copied
 
       pub element-done : (y : List ℕ) → y ≡ chain (step c) (take w mid) n → ElementPut c n seed out Done (y ++ drop w mid)
       element-done y h =

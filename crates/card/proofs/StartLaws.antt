@@ -16,7 +16,7 @@ use Rattle.records.specs.Chains.{chain-length}
 use Rattle.levels.specs.Levels.{allowed, level, firstRound, allowed-range, level-small, first-round-pays}
 use Rattle.lists.specs.Values.{joined}
 use Rattle.lists.specs.Wide.{wide-map, joined-wide}
-use Rattle.lists.specs.Writing.{over, over-length}
+use Rattle.lists.specs.Writing.{over, over-length, over-taken}
 use Rattle.oneway.specs.Laws.{known-byte}
 use Rattle.oneway.specs.Step.{known, step}
 use Rattle.oneway.specs.declared.Chain.{Chain}
@@ -141,7 +141,7 @@ module _ (head : Head) (held seed card : List ℕ) (ok : Layable head held seed 
         let front = joined vs in
         let s : take n slots ≡ filled head vs =
         slots-filled head vs front slots n 608 (slotted .0) refl fits (slotted .1)
-        (ap (take (length front)) (refilled .leaves) ∙ take-at front (drop (length front) (replicate 608 z)) (length front) refl)
+        (over-taken front (replicate 608 z) slots (length front) refl (refilled .leaves))
         (ap (drop (length front)) (refilled .leaves) ∙ drop-at front (drop (length front) (replicate 608 z)) (length front) refl) in
         e ∙ rw s refl
 
@@ -271,7 +271,7 @@ module _ (function k s r : ℕ) (seed card : List ℕ) where
       left = l .leaves ∙ rw (← l .says) refl
 
       there : take count list′ ≡ held
-      there = ap (take count) left ∙ take-at held (drop (length held) list) count (sym counted)
+      there = over-taken held list list′ count (sym counted) left
 
       few : length held ≤ 38
       few = omega (arith, fits-slots, slots-small s k (passed .numbered .small))

@@ -6,7 +6,7 @@ use Prim.Native.Nat.{ℕ, zero, suc, _+_, _≤_, _<_}
 use native.Mathlib.Numerals.{add-one}
 use native.Mathlib.Omega.{arith}
 use lib.ListN.{length, take, drop, set, getD, drop-of-length-le, length-append, length-drop, length-set, List·getD-append}
-use lib.Seq.{take-all, take-append-seam}
+use lib.Seq.{take-all, take-append-seam, take-at}
 
 -- `front` over the front of `old`, whose other entries stay
 abbrev pub over : List ℕ → List ℕ → List ℕ
@@ -14,6 +14,10 @@ over front old = front ++ drop (length front) old
 
 pub over-length : (front old : List ℕ) → length front ≤ length old → length (over front old) ≡ length old
 over-length front old h = simp (length-append, length-drop) (omega arith)
+
+-- and the front is what was written
+pub over-taken : (front old new : List ℕ) (n : ℕ) → length front ≡ n → new ≡ over front old → take n new ≡ front
+over-taken front old new n l e = ap (take n) e ∙ take-at front (drop (length front) old) n l
 
 -- a loop's invariant: the list `now`, once i entries of `new` are written into `old`
 pub record Writing (new old now : List ℕ) (i : ℕ) : Type 0 where

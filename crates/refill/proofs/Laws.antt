@@ -5,9 +5,8 @@ use Prim.Native.Nat.{ℕ, zero, suc, _+_, _-_, _*_, _≤_, _<_}
 use native.Mathlib.Nat.{mul-comm, mul-le-mul-right}
 use native.Mathlib.Omega.{arith}
 use lib.ListN.{length, take, drop, getD, length-append, length-take, drop-of-length-le}
-use lib.Seq.{sets-eq, length-take-le, take-append-le, take-take, take-at, drop-at, drop-cons}
+use lib.Seq.{sets-eq, length-take-le, take-append-le, take-take, drop-at, drop-cons}
 use Rattle.lists.specs.Values.{joined}
-use Rattle.lists.specs.Writing.{over}
 use Rattle.lists.specs.Written.{Written, written-none, written-length, written-front}
 use Rattle.oneway.specs.declared.Chain.{Chain}
 use Rattle.oneway.specs.Step.{width, step}
@@ -148,8 +147,3 @@ module _
             walks = fill-walks;
             stored = rw d (rw (fill-walks .holds) at b);
           }
-
--- ---- refill: the seed in a buffer of the widest value
-
-pub seed-copied : (seed old copied : List ℕ) (w : ℕ) → length seed ≡ w → copied ≡ over seed old → take w copied ≡ seed
-seed-copied seed old copied w l e = ap (take w) e ∙ take-at seed (drop (length seed) old) w l

@@ -6,7 +6,7 @@ use native.Mathlib.Omega.{arith}
 use lib.ListN.{length, take}
 use lib.Seq.{length-take-le}
 use Rattle.oneway.specs.Laws.{width-small}
-use Rattle.refill.proofs.Laws.{seed-copied}
+use Rattle.lists.specs.Writing.{over-taken}
 use Rattle.refill.proofs.refill.Statement.{statement}
 use Rattle.refill.proofs.refill.Tie as tie
 
@@ -23,7 +23,7 @@ seeded : (c : tie.After-copy)
 seeded c =
     let at-width = c .before .before in
     let start = at-width .before .before .before .before in
-    seed-copied _ _ _ _ (start .pre .seeded ∙ sym (at-width .width .ensures)) (c .copy .ensures)
+    over-taken _ _ _ _ (start .pre .seeded ∙ sym (at-width .width .ensures)) (c .copy .ensures)
 
 width-requires : tie.Need-width-requires
 width-requires c κs = search needs
