@@ -1,5 +1,7 @@
 // AES-128 encryption of one block. The functions have the names of FIPS 197 and do its steps; a number such as 5.1.1 is a section there.
 // A state is the array of its four columns, and a round key is sixteen bytes. `sub` is the S-box, lent.
+#![tactic(auto)]
+
 ghost use Rattle.std.specs.Prelude.{◌≡◌, ◌<◌, get_or};
 ghost use Rattle.tables.specs.Tabled.{Tabled};
 ghost use Rattle.aes.specs.Aes.{columns, bytes, xtimes, s_box, sub_bytes, shift_rows, mix_column, mix_columns, add_round_key, sub_word, xor_words, rounds, cipher};

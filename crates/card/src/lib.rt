@@ -1,5 +1,7 @@
 // The card: a record of a chain's values, which a round moves on by the published recursion, and the calls on it. `layout` reads and
 // writes the record.
+#![tactic(auto)]
+
 ghost use Rattle.std.specs.Prelude.{◌≡◌, ◌≤◌, ◌<◌, T};
 ghost use Rattle.lists.specs.Writing.{over};
 ghost use Rattle.card.specs.Record.{card_bytes};
@@ -20,7 +22,7 @@ mod layout;
 const MOST: usize = 608;
 
 // What the first 16 bytes of a record say: the chain's function, the schedule, k, and the next round.
-#[derive(Drop)]
+#[derive(Clone, Copy)]
 pub struct Head {
     pub function: u32,
     pub schedule: u32,
@@ -29,21 +31,21 @@ pub struct Head {
 }
 
 // What the checks of a call come to: the first refusal, or the head of a card that passes.
-#[derive(Drop)]
+#[derive(Clone, Copy)]
 pub enum Inspected {
     Refused(Refusal),
     Card(Head),
 }
 
 // The answer of start, rebuild and anchor.
-#[derive(Drop)]
+#[derive(Clone, Copy)]
 pub enum Answer {
     Done,
     Refused(Refusal),
 }
 
 // The answer of a round: quiet or a tick with its position, and the hashes done.
-#[derive(Drop)]
+#[derive(Clone, Copy)]
 pub enum RoundAnswer {
     Quiet { hashes: u32 },
     Tick { position: u32, hashes: u32 },

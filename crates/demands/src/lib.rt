@@ -1,1 +1,3 @@
 // What is demanded of several calls together, or of every call alike: theorems, and no code.
+#![tactic(auto)]
+

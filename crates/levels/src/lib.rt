@@ -1,5 +1,7 @@
 // Cards of any number of ticks: how many there may be, the level of the smallest card that has so many, and the round with which
 // it begins. Ticks are a count of their own, neither a round number nor rounds left.
+#![tactic(auto)]
+
 ghost use Rattle.std.specs.Prelude.{◌≡◌, suc, ◌-◌, ◌^◌, ◌≤◌, ◌<◌};
 ghost use Rattle.levels.specs.Levels.{allowed as is_allowed, level as level_of};
 

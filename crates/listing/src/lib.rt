@@ -1,5 +1,7 @@
 // The listing of a card's rounds, from the line that asks for it to the last byte written. `text` writes bytes and numbers, and `rounds`
 // runs the card and writes its lines.
+#![tactic(auto)]
+
 ghost use Rattle.std.specs.Prelude.{◌≡◌, ◌+◌, ◌≤◌, length};
 ghost use Rattle.lists.specs.Written.{Written};
 ghost use Rattle.listing.specs.Listing.{name_of, line_for, head_line, total_line, listing_of, Listing};

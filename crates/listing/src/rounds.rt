@@ -11,7 +11,7 @@ use pebbling::{PositionsAnswer, RoundNumber};
 use records::put;
 
 // Lines that were written: where they end, and the hashes that they tell of.
-#[derive(Drop)]
+#[derive(Clone, Copy)]
 pub struct Line {
     pub end: usize,
     pub hashes: u32,

@@ -1,1 +1,3 @@
 // Laws of lists of bytes and numbers, for the proofs of other crates: no code.
+#![tactic(auto)]
+

@@ -2,6 +2,8 @@
 //
 // A step finds its mixing function, message word, additive word and rotation by its number, from 0 to 63. `block` names
 // every number: once the steps are inlined, the machine code has no table, no test and no index left.
+#![tactic(auto)]
+
 ghost use Rattle.std.specs.Prelude.{◌≡◌, ◌+◌, ◌<◌, ◌≤◌};
 ghost use Rattle.md5_block.specs.Md5.{mix, word_number, rotate_left, step, steps_from, word_at, words, block_of};
 ghost use Rattle.md5_block.specs.Lent.{Lent};

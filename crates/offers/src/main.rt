@@ -1,5 +1,7 @@
 // Offers to a post on both sides of its edges, over the chain of function 0 from the seed 00 01 .. 0f, with k = 8. Each line says
 // what was offered and, behind the colon, what the counter says: a refusal's number alone, or 0 and the ticks credited.
+#![tactic(auto)]
+
 ghost use Rattle.std.specs.Prelude.{◌≡◌, length};
 
 use oneway::Chain;

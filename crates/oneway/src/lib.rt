@@ -1,11 +1,13 @@
 // The chain's one-way function. A chain says by number which function it steps by; everything above speaks of `width`, how many
 // bytes a value has, and of `step`, what comes after a value. No other crate names MD5 or AES.
+#![tactic(auto)]
+
 ghost use Rattle.std.specs.Prelude.{◌≡◌, T, length, replicate};
 ghost use Rattle.aes.specs.Aes.{cipher};
 ghost use Rattle.oneway.specs.Step.{step, padded, little_endian_words, digest};
 ghost use Rattle.oneway.specs.Step.{known as is_known, width as width_of};
 
-#[derive(Drop)]
+#[derive(Clone, Copy)]
 pub struct Chain {
     pub function: u32,
 }

@@ -1,11 +1,13 @@
 // The listing program: reads a line from standard input and prints what `listing` makes of it. It answers as soon as the bytes that came
 // decide, so that a line's LF gets its listing at once, on a terminal or a pipe that stays open.
+#![tactic(auto)]
+
 ghost use Rattle.pebbles.specs.Reading.{Within};
 
 use libc::{STDERR_FILENO, STDIN_FILENO, STDOUT_FILENO};
 
 // What reading came to.
-#[derive(Drop)]
+#[derive(Clone, Copy)]
 enum Reading {
     // So many bytes came: they decide, or the input ended behind them.
     Line(usize),

@@ -1,6 +1,8 @@
 // What a card holds before a round and hashes in it, in numbers only: no value of the chain is looked at.
 // `hashes` has one pebbler's schedule and the hashes that it has done, `held` counts the values of all the
 // pebblers that run, and `positions` below is the position list. Each costs time by k and never by 2^k.
+#![tactic(auto)]
+
 ghost use Rattle.std.specs.Prelude.{suc, ◌^◌, ◌≤◌};
 ghost use Rattle.pebbling.specs.Promises.{Left};
 ghost use Rattle.pebbling.specs.PositionList.{Positioned};
@@ -13,11 +15,11 @@ mod position_list;
 pub mod powers;
 
 // A round of a pebbler, counted from 1. The rounds of P_k are 1 to 2^(k+1) - 1.
-#[derive(Drop)]
+#[derive(Clone, Copy)]
 pub struct RoundNumber(pub u32);
 
 // The rounds that a pebbler has not run yet, counted down to 0.
-#[derive(Drop)]
+#[derive(Clone, Copy)]
 pub struct RoundsLeft(pub u32);
 
 // Before round r of P_k: 2^(k+1) - r rounds are left. The one way from the one count to the other.
@@ -34,7 +36,7 @@ pub fn rounds_left(k: u32, round: RoundNumber) -> RoundsLeft
 pub const MOST_POSITIONS: usize = 38;
 
 // What the position list answers.
-#[derive(Drop)]
+#[derive(Clone, Copy)]
 pub enum PositionsAnswer {
     // The positions were written: how many, and the hashes of the round.
     Listed { count: u32, hashes: u32 },

@@ -11,7 +11,7 @@ use super::hashes::{hashes_done, hashes_in};
 use super::powers::{bits, power};
 
 // What listing pebblers comes to: the entry behind their last position, and their hashes in the round.
-#[derive(Drop)]
+#[derive(Clone, Copy)]
 pub struct Listing {
     pub end: usize,
     pub hashes: u32,

@@ -1,6 +1,8 @@
 // The calls for C and Rust: one exported function a call. Each hands what it is lent to the call of that name and answers the call's
 // answer as one word: bits 0-7 the refusal's number, 0 for none; bits 8-15 a kind, 1 for a tick, a credit or a yes, else 0; bits 16-39
 // the first number (position, how many positions, ticks credited); bits 40-63 the second (hashes). include/perchmellow.h declares them.
+#![tactic(auto)]
+
 ghost use Rattle.std.specs.Prelude.{◌≡◌, ◌≤◌};
 ghost use Rattle.card.specs.Promises.{Started, Rebuilt, StartedTicks, Rounded, Anchored, AnchoredTicks};
 ghost use Rattle.pebbling.specs.PositionList.{Positioned};

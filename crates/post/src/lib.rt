@@ -1,5 +1,7 @@
 // The post: a record of the anchor, the ticks paid and the value last taken, and the calls on it. `layout` reads and writes the
 // record, and `steps` goes along the chain.
+#![tactic(auto)]
+
 ghost use Rattle.std.specs.Prelude.{◌≡◌, ◌^◌, ◌≤◌};
 ghost use Rattle.lists.specs.Writing.{over};
 ghost use Rattle.post.specs.Record.{post_bytes};
@@ -16,7 +18,7 @@ mod layout;
 mod steps;
 
 // What the first 8 bytes of a record say: the chain's function, k, and the ticks paid.
-#[derive(Drop)]
+#[derive(Clone, Copy)]
 pub struct Head {
     pub function: u32,
     pub k: u32,
@@ -24,35 +26,35 @@ pub struct Head {
 }
 
 // What the checks of a call come to: the first refusal, or the head of a post that passes.
-#[derive(Drop)]
+#[derive(Clone, Copy)]
 pub enum Inspected {
     Refused(Refusal),
     Post(Head),
 }
 
 // What a search comes to: the fewest steps that lead to the value held, or none.
-#[derive(Drop)]
+#[derive(Clone, Copy)]
 pub enum Found {
     At(u32),
     Nothing,
 }
 
 // The answer of enrol.
-#[derive(Drop)]
+#[derive(Clone, Copy)]
 pub enum Answer {
     Done,
     Refused(Refusal),
 }
 
 // The answer of an offer: the ticks credited.
-#[derive(Drop)]
+#[derive(Clone, Copy)]
 pub enum OfferAnswer {
     Credited(u32),
     Refused(Refusal),
 }
 
 // The answer of settle: whether the last value leads to the anchor.
-#[derive(Drop)]
+#[derive(Clone, Copy)]
 pub enum SettleAnswer {
     Yes,
     No,

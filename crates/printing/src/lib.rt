@@ -1,4 +1,6 @@
 // What the programs print with: text, numbers, bytes in hexadecimal and the schedules' names, to standard output.
+#![tactic(auto)]
+
 ghost use Rattle.std.specs.Prelude.{◌≡◌, ◌<◌};
 ghost use Rattle.printing.specs.Hex.{digit_of, digits_of};
 

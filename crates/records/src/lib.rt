@@ -1,4 +1,6 @@
 // What the card's and the post's records share: bytes copied and compared, numbers of four bytes read and written, and steps along a chain.
+#![tactic(auto)]
+
 ghost use Rattle.std.specs.Prelude.{◌≡◌, ◌+◌, ◌≤◌, T, length};
 ghost use Rattle.lists.specs.Same.{same as same_as};
 ghost use Rattle.lists.specs.Writing.{over};

@@ -1,5 +1,7 @@
 // The slots of a card's record filled anew from its seed: once along the chain, from the seed up to the highest position that is held,
 // with a value stored at each position on the way.
+#![tactic(auto)]
+
 ghost use Rattle.std.specs.Prelude.{◌≡◌, ◌-◌, ◌≤◌, T, length};
 ghost use Rattle.oneway.specs.Step.{known, width, step};
 ghost use Rattle.pebbling.specs.Recursion.{chain as element};

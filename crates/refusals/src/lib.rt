@@ -1,9 +1,11 @@
 // The numbers said at the counter. Every call of the card and of the post that turns its input down
 // answers one of these cases, and `number` gives what the counter says of it.
+#![tactic(auto)]
+
 ghost use Rattle.std.specs.Prelude.{◌≡◌};
 ghost use Rattle.refusals.specs.Numbers.{number_of};
 
-#[derive(Drop)]
+#[derive(Clone, Copy)]
 pub enum Refusal {
     // The function number names no one-way function.
     UnknownFunction,

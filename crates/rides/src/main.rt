@@ -3,6 +3,8 @@
 // and when, the ticks that the post credited, all hashes, the most in a paying round, the most values held before a round, what settle
 // says of the post's record, and what the post says when it is offered the last tick again: 6 where 2^k are paid. Behind the rides
 // stand cards beside which a rebuild was made before some rounds, with how many of those records were the same.
+#![tactic(auto)]
+
 use card::RoundAnswer;
 use pebbling::{PositionsAnswer, RoundNumber};
 use post::{OfferAnswer, SettleAnswer};
@@ -34,7 +36,7 @@ const BESIDE: [u32; 21] = [
 const LENT: [u8; CARD] = [255u8; CARD];
 
 // The figures of a ride so far.
-#[derive(Drop)]
+#[derive(Clone, Copy)]
 struct Ride {
     credited: u32,
     hashes: u32,
@@ -43,7 +45,7 @@ struct Ride {
 }
 
 // After a round: the ride goes on, or something was refused.
-#[derive(Drop)]
+#[derive(Clone, Copy)]
 enum Turn {
     On(Ride),
     Over,

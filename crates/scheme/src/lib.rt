@@ -1,1 +1,3 @@
 // Card and post together: theorems about the two, and no code.
+#![tactic(auto)]
+

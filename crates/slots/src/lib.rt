@@ -1,6 +1,8 @@
 // A round of a card on the bytes of its slots. The values held before the round stand one behind another from the front of
 // `old`; those held after it are written from the front of `new`, and no byte behind them is touched. Which values are held
 // follows from the level, the schedule and the round alone.
+#![tactic(auto)]
+
 ghost use Rattle.std.specs.Prelude.{◌≡◌, suc, ◌+◌, ◌*◌, ◌^◌, ◌≤◌, ◌<◌, T, length, take, drop};
 ghost use Rattle.lists.specs.Writing.{over};
 ghost use Rattle.oneway.specs.Step.{known, step};
@@ -16,7 +18,7 @@ use records::copy;
 
 // The bytes read of the old slots and written of the new ones, and how often f was applied. The count stands between the two
 // lengths: side by side they would be added as one vector, and that has to wait for both to be stored.
-#[derive(Drop)]
+#[derive(Clone, Copy)]
 pub struct Moved {
     pub read: usize,
     pub hashes: u32,

@@ -1,5 +1,7 @@
 // A card of 2^4 ticks, run to its end under every schedule and with both functions. Each tick is printed beside the chain's
 // element of that number, worked out straight from the seed.
+#![tactic(auto)]
+
 ghost use Rattle.std.specs.Prelude.{◌≡◌, T, length};
 ghost use Rattle.oneway.specs.Step.{known, width};
 

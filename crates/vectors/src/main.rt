@@ -1,11 +1,13 @@
 // The published examples, run on the two block functions: RFC 1321's test suite and FIPS 197's AES-128 encryptions.
 // For each: what went in, what came out, and what the document says.
+#![tactic(auto)]
+
 ghost use Rattle.std.specs.Prelude.{◌<◌, ◌≤◌, length};
 
 use printing::{print, print_hex, print_number};
 
 // How many examples agreed, of how many.
-#[derive(Drop)]
+#[derive(Clone, Copy)]
 struct Tally {
     agreed: u32,
     run: u32,

@@ -1,0 +1,8 @@
+-- `card::layout::head_bytes` meets its contract: the number's bytes are those of the definition. Assumes nothing.
+use mathlib.Core.Path.{refl}
+use Rattle.card.specs.Record.{head_bytes}
+use Rattle.card.proofs.layout.head_bytes.Goals as goal
+
+pub returns : goal.returns
+unfolding head_bytes
+returns c = rw c.word_Bytes.ensures refl

@@ -1,0 +1,26 @@
+-- `listing::rounds::put_round` meets its contract. The position list refuses nothing and gives the recursion's positions, and the card's round
+-- says the recursion's hashes and what it puts out, so that the line is the recursion's (RoundLaws). Assumes nothing.
+use mathlib.Core.Path.{sym}
+use lib.Seq.{length-take-le}
+use Rattle.listing.proofs.RoundLaws.{never_refused, count_fits, answer_fits, line_says, card_moves}
+use Rattle.listing.proofs.rounds.put_round.Goals as goal
+
+pub returns-in_default : goal.returns-in_default
+returns-in_default c =
+    absurd (never_refused c.args.schedule c.args.k c.args.round.0 c.requires.0 _ _ c.positions-listed.ensures _ c.enum_told-1.given.1)
+
+pub slice_bounds-list-end : goal.slice_bounds-list-end
+slice_bounds-list-end c =
+    count_fits c.args.schedule c.args.k c.args.round.0 c.requires.0 _ _ c.positions-listed.ensures _ _ c.listed-1.given.1
+
+pub slice_bounds-put_answer-end : goal.slice_bounds-put_answer-end
+slice_bounds-put_answer-end c =
+    sym (length-take-le _ _ (count_fits c.args.schedule c.args.k c.args.round.0 c.requires.0 _ _ c.positions-listed.ensures _ _ c.listed-1.given.1))
+
+pub put_answer-requires : goal.put_answer-requires
+put_answer-requires c =
+    answer_fits c.args.schedule c.args.k c.args.round.0 c.requires.0 _ _ c.positions-listed.ensures _ _ c.listed-1.given.1 _ _ _ _ c.requires.1.0 c.round-answer.ensures c.args.text.now _ c.requires.1.1
+
+pub returns : goal.returns
+returns c =
+    (line_says c.args.schedule c.args.k c.args.round.0 c.requires.0 _ _ c.positions-listed.ensures _ _ c.listed-1.given.1 _ _ _ _ c.requires.1.0 c.round-answer.ensures c.args.text.now _ _ _ c.put_answer.ensures, card_moves c.args.schedule c.args.k c.args.round.0 c.requires.0 _ _ c.positions-listed.ensures _ _ c.listed-1.given.1 _ _ _ _ c.requires.1.0 c.round-answer.ensures)

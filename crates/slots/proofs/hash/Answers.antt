@@ -1,0 +1,64 @@
+-- `slots::hash` meets its contract. The loop's invariant: `applied` hashes are done on the values, which stand from `newest` on, and nothing behind them is
+-- touched. `open` makes the room and f is applied in place, which together is one hash. Assumes nothing.
+use mathlib.Core.Path.{◌≡◌, ◌∙◌}
+use Prim.Native.Nat.{◌+◌, ◌-◌, ◌≤◌}
+use native.Mathlib.Omega.{arith}
+use lib.ListN.{length}
+use lib.Pow.{pow_mono}
+use Rattle.lists.specs.Parts.{part_length}
+use Rattle.slots.specs.Hashing.{Hashing}
+use Rattle.slots.proofs.Growing.{hash_none, hash_all, hash_opens, hash_lent, hash_next}
+use Rattle.slots.proofs.hash.Goals as goal
+
+-- the contract's width is the local one
+asked : (c : tie.After-width invariant-loop decreases-loop) → let a = c.args in Hashing c.width-w.result a.k a.h a.n a.at a.new.now
+asked c = rw c.width-w.ensures c.requires.1
+
+-- the part that f is applied to
+lent : (c : tie.After-open invariant-loop decreases-loop) → c.open-to.result + c.width-w.result ≤ length c.open-to.new.1.1.1.1.0
+lent c =
+    hash_lent (asked c) c.loop-applied.invariant c.loop-applied-test.true c.open-to.ensures c.open-to.auto.1.1.1.1.0
+
+pub loop-applied-init : goal.loop-applied-init
+loop-applied-init c = hash_none (asked c)
+
+pub overflow_add-h : goal.overflow_add-h
+overflow_add-h c =
+    omega (arith, c.requires.1.more, pow_mono {i = c.args.k} {j = 20} c.requires.1.small)
+
+pub open-to-requires : goal.open-to-requires
+open-to-requires c =
+    hash_opens (asked c) c.loop-applied.invariant c.loop-applied-test.true
+
+pub overflow_add-end : goal.overflow_add-end
+overflow_add-end c =
+    omega (arith, lent c, c.open-to.auto.1.1.1.1.0, c.loop-applied.invariant.sized, c.well-formed)
+
+pub slice_bounds-apply-end : goal.slice_bounds-apply-end
+slice_bounds-apply-end c = lent c
+
+pub apply-requires : goal.apply-requires
+apply-requires c =
+    let w = c.width-w.result in
+    let e = part_length c.open-to.result (c.open-to.result + w) c.open-to.new.1.1.1.1.0 (omega arith) (lent c) in
+    (c.requires.0, e ∙ omega (arith, c.width-w.ensures))
+
+pub overflow_add-applied : goal.overflow_add-applied
+overflow_add-applied c =
+    omega (arith, c.requires.1.more, pow_mono {i = c.args.k} {j = 20} c.requires.1.small)
+
+pub loop-applied-preserved : goal.loop-applied-preserved
+loop-applied-preserved c =
+    let to = c.open-to.result in
+    let w = c.width-w.result in
+    let opened = c.open-to.new.1.1.1.1.0 in
+    let u : to + w - to ≡ w = omega arith in
+    hash_next (asked c) c.loop-applied.invariant c.loop-applied-test.true c.open-to.ensures c.open-to.auto.1.1.1.1.0
+    (c.apply.auto.1.0 ∙ part_length to (to + w) opened (omega arith) (lent c) ∙ u) c.apply.ensures
+
+pub shape_of-new : goal.shape_of-new
+shape_of-new c = c.loop-applied.invariant.sized
+
+pub returns : goal.returns
+returns c =
+    rw (← c.width-w.ensures) (hash_all (asked c) c.loop-applied.invariant c.loop-applied-test.false)

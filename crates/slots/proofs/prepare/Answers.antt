@@ -1,0 +1,82 @@
+-- `slots::prepare` meets its contract. The values are copied behind just the room that the round's hashes fill, and the hashes bring them to the front;
+-- without a hash the copy is all. Assumes nothing.
+-- what the code has worked out before its first test
+use mathlib.Core.Path.{sym}
+use Prim.Native.Nat.{◌*◌, ◌≤◌}
+use native.Mathlib.Omega.{arith}
+use lib.ListN.{length, length-take, length-drop}
+use lib.Pow.{pow_mono}
+use lib.Seq.{length-take-le}
+use Rattle.pebbling.specs.Len.{not-zero}
+use Rattle.slots.proofs.OwnRound.{Preparing, prepare_fits, prepare_enough, idle_room, idle_moves, prepare_grows, prepare_room, prepare_asks, prepare_moves}
+use Rattle.slots.proofs.prepare.Goals as goal
+
+counted : (c : tie.After-held-count-after)
+    →    Preparing c.args.chain c.args.schedule c.args.k c.args.round.0 c.args.old.now c.args.new.now c.width-w.result
+    c.hashes_done-h.result c.hashes_in-n.result c.held_count_after.result
+counted c =
+    record {
+      asked = c.requires.0;
+      early = c.requires.1;
+      wide = c.width-w.ensures;
+      past = c.hashes_done-h.ensures;
+      does = c.hashes_in-n.ensures;
+      holds = c.held_count_after.ensures;
+    }
+
+room : (c : tie.After-held-count-after2)
+    →    let w = c.width-w.result in
+    (c.held_count_after.result * w ≤ c.held_count_after-2.result * w) × (c.held_count_after-2.result * w ≤ length c.args.new.now)
+room c = let p = counted c in (prepare_grows p c.held_count_after-2.ensures, prepare_room p c.held_count_after-2.ensures)
+
+pub hashes_in-n-requires : goal.hashes_in-n-requires
+hashes_in-n-requires c =
+    (omega (arith, c.requires.0.schedule), not-zero _ _ c.requires.0.from c.requires.1, c.requires.0.small, c.requires.1)
+
+pub overflow_mul-read : goal.overflow_mul-read
+overflow_mul-read c = omega (arith, prepare_enough (counted c), c.well-formed)
+
+pub slice_bounds-copy-end : goal.slice_bounds-copy-end
+slice_bounds-copy-end c = sym (length-take-le _ _ (prepare_enough (counted c)))
+
+pub copy-requires : goal.copy-requires
+copy-requires c =
+    let z = idle_room (counted c) c.if-n-eq0.true in
+    simp length-take (omega arith)
+
+pub returns-then-n-eq0 : goal.returns-then-n-eq0
+returns-then-n-eq0 c =
+    idle_moves (counted c) c.if-n-eq0.true c.copy.ensures
+
+pub overflow_add-h : goal.overflow_add-h
+overflow_add-h c =
+    omega (arith, prepare_fits (counted c), pow_mono {i = c.args.k} {j = 20} c.requires.0.small)
+
+pub held_count_after-requires-2 : goal.held_count_after-requires-2
+held_count_after-requires-2 c = (c.requires.0.small, prepare_fits (counted c))
+
+pub overflow_mul-written : goal.overflow_mul-written
+overflow_mul-written c = omega (arith, (room c).1, c.well-formed)
+
+pub overflow_sub-at : goal.overflow_sub-at
+overflow_sub-at c = (room c).0
+
+pub slice_bounds-copy-end-2 : goal.slice_bounds-copy-end-2
+slice_bounds-copy-end-2 c = sym (length-take-le _ _ (prepare_enough (counted c)))
+
+pub slice_bounds-copy-count : goal.slice_bounds-copy-count
+slice_bounds-copy-count c = let z = room c in omega arith
+
+pub slice_bounds-copy-start : goal.slice_bounds-copy-start
+slice_bounds-copy-start c = let z = room c in omega arith
+
+pub copy-requires-2 : goal.copy-requires-2
+copy-requires-2 c = let z = room c in simp (length-take, length-drop) (omega arith)
+
+pub hash-applied-requires : goal.hash-applied-requires
+hash-applied-requires c =
+    (c.requires.0.known, prepare_asks (counted c) c.held_count_after-2.ensures c.copy-2.new.1.0 c.copy-2.auto.1.0)
+
+pub returns : goal.returns
+returns c =
+    prepare_moves (counted c) c.held_count_after-2.ensures c.copy-2.new.1.0 c.copy-2.ensures c.hash-applied.ensures
