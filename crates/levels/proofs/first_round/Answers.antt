@@ -1,5 +1,4 @@
 -- `levels::first_round` meets its contract. Assumes nothing.
--- the power of k + 1
 use mathlib.Core.Path.{◌≡◌, ap, ◌∙◌}
 use Prim.Native.Nat.{ℕ, suc, ◌+◌, ◌^◌}
 use native.Mathlib.Nat.{pow-succ'}
@@ -8,6 +7,7 @@ use native.Mathlib.Omega.{arith}
 use Rattle.pebbling.specs.Promises.{Power}
 use Rattle.levels.proofs.first_round.Goals as goal
 
+-- the power of k + 1
 whole : (k p : ℕ) → Power (k + 1) p → p ≡ 2 ^ suc k
 whole k p q = q.is ∙ ap (λ (x : ℕ). 2 ^ x) (add-one k)
 

@@ -20,15 +20,15 @@ put-requires-in_default c = omega (arith, c.requires, name_length c.args.schedul
 
 pub returns-in-0 : goal.returns-in-0
 unfolding bytes
-returns-in-0 c = written_as _ _ _ _ _ _ (name_0 _ c.in_default.keys1) c.put.ensures
+returns-in-0 c = written_as _ _ _ _ _ _ (name_0 _ c.in-0.keys1) c.put.ensures
 
 pub returns-in-1 : goal.returns-in-1
 unfolding bytes
-returns-in-1 c = written_as _ _ _ _ _ _ (name_1 _ c.in_default.keys2) c.put-in-1.ensures
+returns-in-1 c = written_as _ _ _ _ _ _ (name_1 _ c.in-1.keys2) c.put-in-1.ensures
 
 pub returns-in-2 : goal.returns-in-2
 unfolding bytes
-returns-in-2 c = written_as _ _ _ _ _ _ (name_2 _ c.in_default.keys3) c.put-in-2.ensures
+returns-in-2 c = written_as _ _ _ _ _ _ (name_2 _ c.in-2.keys3) c.put-in-2.ensures
 
 pub returns-in_default : goal.returns-in_default
 unfolding bytes

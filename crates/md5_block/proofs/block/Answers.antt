@@ -10,5 +10,5 @@ all_steps-s-requires c = record { adds = tabled tt; turns = tabled tt }
 
 pub returns : goal.returns
 returns c =
-    block_is c.args.t1 c.args.bytes.now c.all_steps-s.result c.split-x.ensures c.all_steps-s.ensures
+    block_is c.args.state c.args.bytes.now c.all_steps-s.result c.split-x.ensures c.all_steps-s.ensures
     c.wrapping_add_u32-a.ensures c.wrapping_add_u32-b.ensures c.wrapping_add_u32-c.ensures c.wrapping_add_u32-d.ensures

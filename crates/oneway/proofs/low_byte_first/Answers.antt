@@ -4,4 +4,4 @@ use Rattle.oneway.proofs.Laws.{words_bytes}
 use Rattle.oneway.proofs.low_byte_first.Goals as goal
 
 pub returns : goal.returns
-returns c = words_bytes c.args.t1 (omega arith)
+returns c = words_bytes c.args.s (omega arith)

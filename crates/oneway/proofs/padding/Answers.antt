@@ -14,14 +14,14 @@ loop-i-init c = (search rules, writing_none _ _)
 
 pub loop-i-preserved : goal.loop-i-preserved
 loop-i-preserved c =
-    let v = c.args.t1 in
+    let v = c.args.value in
     let l : length v ≡ 16 = omega arith in
     let h : c.loop-i.i < length v = omega arith in
     (search rules, writing_next _ _ _ _ _ (over_length v laid (omega arith)) (search rules) c.loop-i.invariant.1 (sym (get_or-append v _ 0 c.loop-i.i h)))
 
 pub returns : goal.returns
 returns c =
-    let v = c.args.t1 in
+    let v = c.args.value in
     let l : length v ≡ 16 = omega arith in
     let e : c.loop-i.i ≡ length v = omega arith in
     writing_front v laid _ _ e c.loop-i.invariant.1 ∙ laid_padded v l

@@ -12,10 +12,10 @@ loop-i-init c = (search rules, writing_none _ _)
 
 pub loop-i-preserved : goal.loop-i-preserved
 loop-i-preserved c =
-    let e : length c.args.t1 ≡ length c.args.bytes.now = omega arith in
+    let e : length c.args.value ≡ length c.args.bytes.now = omega arith in
     (search rules, writing_next _ _ _ _ _ e (search rules) c.loop-i.invariant.1 refl)
 
 pub returns : goal.returns
 returns c =
-    let e : length c.args.t1 ≡ length c.args.bytes.now = omega arith in
+    let e : length c.args.value ≡ length c.args.bytes.now = omega arith in
     writing_all _ _ _ _ e (search rules) c.loop-i.invariant.1

@@ -10,4 +10,4 @@ pub slice_bounds-listing-end : goal.slice_bounds-listing-end
 slice_bounds-listing-end c = sym (length-take-le _ _ (rw c.count-1.given.1 at c.read_line.ensures))
 
 pub slice-aggregate-write-all-2 : goal.slice-aggregate-write-all-2
-slice-aggregate-write-all-2 c = sym (length-take-le _ _ c.listing-n.ensures.within)
+slice-aggregate-write-all-2 c = sym (length-take-le _ _ c.listing.ensures.within)

@@ -9,18 +9,19 @@ use Rattle.lists.specs.Parts.{part_length}
 use Rattle.slots.specs.Hashing.{Hashing}
 use Rattle.slots.proofs.Growing.{hash_none, hash_all, hash_opens, hash_lent, hash_next}
 use Rattle.slots.proofs.hash.Goals as goal
+use Rattle.slots.proofs.hash.Goals.{After-width-w, After-open-to}
 
 -- the contract's width is the local one
-asked : (c : tie.After-width invariant-loop decreases-loop) → let a = c.args in Hashing c.width-w.result a.k a.h a.n a.at a.new.now
+asked : (c : After-width-w) → let a = c.args in Hashing c.width-w.result a.k a.h a.n a.at a.new.now
 asked c = rw c.width-w.ensures c.requires.1
 
 -- the part that f is applied to
-lent : (c : tie.After-open invariant-loop decreases-loop) → c.open-to.result + c.width-w.result ≤ length c.open-to.new.1.1.1.1.0
+lent : (c : After-open-to) → c.open-to.result + c.width-w.result ≤ length c.open-to.new.1.1.1.1.0
 lent c =
     hash_lent (asked c) c.loop-applied.invariant c.loop-applied-test.true c.open-to.ensures c.open-to.auto.1.1.1.1.0
 
 pub loop-applied-init : goal.loop-applied-init
-loop-applied-init c = hash_none (asked c)
+loop-applied-init c = hash_none (asked (goal.at.loop-applied-init c).After-width-w)
 
 pub overflow_add-h : goal.overflow_add-h
 overflow_add-h c =
@@ -28,19 +29,19 @@ overflow_add-h c =
 
 pub open-to-requires : goal.open-to-requires
 open-to-requires c =
-    hash_opens (asked c) c.loop-applied.invariant c.loop-applied-test.true
+    hash_opens (asked (goal.at.open-to-requires c).After-width-w) c.loop-applied.invariant c.loop-applied-test.true
 
 pub overflow_add-end : goal.overflow_add-end
 overflow_add-end c =
-    omega (arith, lent c, c.open-to.auto.1.1.1.1.0, c.loop-applied.invariant.sized, c.well-formed)
+    omega (arith, lent (goal.at.overflow_add-end c).After-open-to, c.open-to.auto.1.1.1.1.0, c.loop-applied.invariant.sized, c.well_formed)
 
 pub slice_bounds-apply-end : goal.slice_bounds-apply-end
-slice_bounds-apply-end c = lent c
+slice_bounds-apply-end c = lent (goal.at.slice_bounds-apply-end c).After-open-to
 
 pub apply-requires : goal.apply-requires
 apply-requires c =
     let w = c.width-w.result in
-    let e = part_length c.open-to.result (c.open-to.result + w) c.open-to.new.1.1.1.1.0 (omega arith) (lent c) in
+    let e = part_length c.open-to.result (c.open-to.result + w) c.open-to.new.1.1.1.1.0 (omega arith) (lent (goal.at.apply-requires c).After-open-to) in
     (c.requires.0, e ∙ omega (arith, c.width-w.ensures))
 
 pub overflow_add-applied : goal.overflow_add-applied
@@ -53,12 +54,12 @@ loop-applied-preserved c =
     let w = c.width-w.result in
     let opened = c.open-to.new.1.1.1.1.0 in
     let u : to + w - to ≡ w = omega arith in
-    hash_next (asked c) c.loop-applied.invariant c.loop-applied-test.true c.open-to.ensures c.open-to.auto.1.1.1.1.0
-    (c.apply.auto.1.0 ∙ part_length to (to + w) opened (omega arith) (lent c) ∙ u) c.apply.ensures
+    hash_next (asked (goal.at.loop-applied-preserved c).After-width-w) c.loop-applied.invariant c.loop-applied-test.true c.open-to.ensures c.open-to.auto.1.1.1.1.0
+    (c.apply.auto.1.0 ∙ part_length to (to + w) opened (omega arith) (lent (goal.at.loop-applied-preserved c).After-open-to) ∙ u) c.apply.ensures
 
 pub shape_of-new : goal.shape_of-new
 shape_of-new c = c.loop-applied.invariant.sized
 
 pub returns : goal.returns
 returns c =
-    rw (← c.width-w.ensures) (hash_all (asked c) c.loop-applied.invariant c.loop-applied-test.false)
+    rw (← c.width-w.ensures) (hash_all (asked (goal.at.returns c).After-width-w) c.loop-applied.invariant c.loop-applied-test.false)

@@ -1,11 +1,11 @@
 -- `listing::rounds::put_held` meets its contract: four pieces, each written where the one before it ended. Assumes nothing.
--- ---- the text
 use mathlib.Core.List.{◌++◌}
 use lib.ListN.{length}
 use Rattle.lists.specs.Written.{first_fits, second_fits, third_of_four_fits, fourth_fits, written_four}
 use Rattle.listing.specs.Listing.{space, field, position_list, held_fields}
 use Rattle.listing.proofs.rounds.put_held.Goals as goal
 
+-- ---- the text
 pub returns : goal.returns
 unfolding held_fields
 returns c =

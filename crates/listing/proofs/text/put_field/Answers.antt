@@ -18,7 +18,7 @@ bounds-text-next c =
 pub overflow_add-result : goal.overflow_add-result
 unfolding field
 overflow_add-result c =
-    omega (arith, c.well-formed, c.put_decimal-next.auto.1.1.0, next_fits (decimal c.args.n) (c.args.mark ∷ []) c.args.text.now c.args.at c.put_decimal-next.new.1.1.0 c.put_decimal-next.result c.put_decimal-next.ensures c.requires)
+    omega (arith, c.well_formed, c.put_decimal-next.auto.1.1.0, next_fits (decimal c.args.n) (c.args.mark ∷ []) c.args.text.now c.args.at c.put_decimal-next.new.1.1.0 c.put_decimal-next.result c.put_decimal-next.ensures c.requires)
 
 pub returns : goal.returns
 unfolding field

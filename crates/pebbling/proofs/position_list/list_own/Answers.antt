@@ -8,9 +8,10 @@ use mathlib.Core.Path.{◌∙◌}
 use Rattle.pebbling.specs.SideBySide.{held_some}
 use Rattle.pebbling.proofs.ListLaws.{filling_none, filling_step, filling_room, filling_end, newest_top}
 use Rattle.pebbling.proofs.position_list.list_own.Goals as goal
+use Rattle.pebbling.proofs.position_list.list_own.Goals.{After-power}
 
 -- there is room for one more position while one is left
-room : (c : tie.After-power2 invariant-loop decreases-loop)
+room : (c : After-power)
     → (c.loop-i.next < length c.loop-i.list)
     × (c.loop-i.next < length c.args.list.now)
 room c =
@@ -20,13 +21,13 @@ pub overflow_add-list : goal.overflow_add-list
 overflow_add-list c = omega (arith, c.requires, pow_mono {i = c.args.k} {j = 20} c.requires.0)
 
 pub offset_bounds-list-at : goal.offset_bounds-list-at
-offset_bounds-list-at c = let l = held_some c.args.k c.args.h c.args.base in omega (arith, c.requires.3, c.well-formed)
+offset_bounds-list-at c = let l = held_some c.args.k c.args.h c.args.base in omega (arith, c.requires.3, c.well_formed)
 
 pub bounds-list-at : goal.bounds-list-at
 bounds-list-at c = let l = held_some c.args.k c.args.h c.args.base in omega (arith, c.requires.3)
 
 pub overflow_add-next : goal.overflow_add-next
-overflow_add-next c = let l = held_some c.args.k c.args.h c.args.base in omega (arith, c.requires.3, c.well-formed)
+overflow_add-next c = let l = held_some c.args.k c.args.h c.args.base in omega (arith, c.requires.3, c.well_formed)
 
 pub loop-i-init : goal.loop-i-init
 loop-i-init c = filling_none _ _ _ _ _ (newest_top _ _ c.args.base _ _ c.requires.1 c.power-whole.ensures c.bits-i.ensures)
@@ -37,13 +38,13 @@ overflow_sub-place c =
     omega (arith, c.power-whole.ensures.is, c.power.ensures.is, pow_mono h)
 
 pub offset_bounds-list-next : goal.offset_bounds-list-next
-offset_bounds-list-next c = omega (arith, (room c).1, c.well-formed)
+offset_bounds-list-next c = omega (arith, (room (goal.at.offset_bounds-list-next c).After-power).1, c.well_formed)
 
 pub bounds-list-next : goal.bounds-list-next
-bounds-list-next c = (room c).0
+bounds-list-next c = (room (goal.at.bounds-list-next c).After-power).0
 
 pub overflow_add-next-in-loop-i : goal.overflow_add-next-in-loop-i
-overflow_add-next-in-loop-i c = omega (arith, (room c).1, c.well-formed)
+overflow_add-next-in-loop-i c = omega (arith, (room (goal.at.overflow_add-next-in-loop-i c).After-power).1, c.well_formed)
 
 pub loop-i-smaller : goal.loop-i-smaller
 loop-i-smaller c = omega (arith, c.loop-i-test.true)

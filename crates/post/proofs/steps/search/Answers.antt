@@ -23,7 +23,7 @@ loop-g-smaller-then-same c = omega (arith, c.loop-g.invariant.upto)
 pub loop-g-preserved-then-same : goal.loop-g-preserved-then-same
 loop-g-preserved-then-same c =
     let turn = c.loop-g in
-    let test = c.loop-g-test in
+    let test = c.loop-test in
     let walk = c.walk in
     search_fits _ _ _ _ _ _ _ _ turn.invariant test.true _ walk.ensures
     (sym c.same.ensures ∙ c.if-same.true)
@@ -34,7 +34,7 @@ loop-g-smaller c = omega (arith, c.loop-g.invariant.upto)
 pub loop-g-preserved : goal.loop-g-preserved
 loop-g-preserved c =
     let turn = c.loop-g in
-    let test = c.loop-g-test in
+    let test = c.loop-test in
     let walk = c.walk in
     search_on _ _ _ _ _ _ _ _ turn.invariant test.true _ walk.ensures
     (sym c.same.ensures ∙ c.if-same.false)
