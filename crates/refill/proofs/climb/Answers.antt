@@ -1,6 +1,5 @@
 -- `refill::climb` meets its contract. The loop's invariant: the value has gone as many steps along the chain as the position went up. Assumes nothing.
 use mathlib.Core.Path.{◌∙◌}
-use Prim.Native.Nat.{◌-◌}
 use native.Mathlib.Omega.{arith}
 use Rattle.refill.proofs.Laws.{climbing_none, climbing_next, climbed}
 use Rattle.refill.proofs.climb.Goals as goal
@@ -10,7 +9,7 @@ loop-at-init c = (omega arith, omega arith, climbing_none _ _ _ c.requires.value
 
 pub apply-requires : goal.apply-requires
 apply-requires c =
-    record { t = c.requires.t; value_len = c.loop-at.invariant.2.sized ∙ c.loop-at.invariant.2.wide; }
+    record { t = c.requires.t; value_len = c.loop-at.invariant.2.sized ∙ c.loop-at.invariant.2.wide }
 
 pub loop-at-smaller : goal.loop-at-smaller
 loop-at-smaller c = omega arith
