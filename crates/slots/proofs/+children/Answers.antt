@@ -73,7 +73,7 @@ slice_bounds-prepare-start-2 t c =
 pub prepare-lower-requires : goal.prepare-lower-requires
 prepare-lower-requires t c =
     let a = lower_asks (split t (goal.at.prepare-lower-requires t c).After-power) c.if-c-half.false c.children-upper.ensures c.children-upper.auto.new in
-    record { advancing = a.0; round_bound = a.1; }
+    record { advancing = a.0; round_bound = a.1 }
 
 pub together-requires : goal.together-requires
 together-requires t c =

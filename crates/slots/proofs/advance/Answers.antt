@@ -19,7 +19,7 @@ rounds_left-left-requires c = (c.requires.small, omega (arith, c.requires.before
 pub children-requires : goal.children-requires
 children-requires c =
     let a = late_asks c.requires c.power-whole.ensures (omega (arith, c.if-r-whole.false, c.if-r-whole-2.false)) c.rounds_left-left.ensures in
-    record { advancing = a.0; round_nonzero = a.1; }
+    record { advancing = a.0; round_nonzero = a.1 }
 
 pub returns : goal.returns
 returns c =

@@ -1,9 +1,8 @@
 -- `slots::prepare` meets its contract. The values are copied behind just the room that the round's hashes fill, and the hashes bring them to the front;
 -- without a hash the copy is all. Assumes nothing.
 use mathlib.Core.Path.{sym}
-use Prim.Native.Nat.{◌*◌, ◌≤◌}
 use native.Mathlib.Omega.{arith}
-use lib.ListN.{length, length-take, length-drop}
+use lib.ListN.{length-take, length-drop}
 use lib.Pow.{pow_mono}
 use lib.Seq.{length-take-le}
 use Rattle.pebbling.specs.Len.{not-zero}
