@@ -10,7 +10,7 @@ use lib.ListN.{length, take, drop}
 use lib.Pow.{pow_mono}
 use Rattle.lists.specs.Writing.{over}
 use Rattle.oneway.specs.Laws.{known_byte}
-use Rattle.oneway.specs.Step.{known, step}
+use Rattle.oneway.specs.Step.{step}
 use Rattle.pebbling.specs.Promises.{Power}
 use Rattle.refusals.specs.declared.Refusal.{Refusal}
 use Rattle.refusals.specs.declared.Refusal.TheVariants.{WrongLength, Spent, BadGap, NotTaken}

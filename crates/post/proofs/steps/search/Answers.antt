@@ -1,6 +1,5 @@
 -- `post::steps::search` meets its contract. The loop's invariant: the least of those looked at is found,
 -- and where one is found the search is at its end. Assumes nothing.
-use Prim.Native.Nat.{◌-◌}
 use mathlib.Core.Path.{sym, ◌∙◌}
 use native.Mathlib.Omega.{arith}
 use Rattle.post.proofs.StepLaws.{searching_none, search_fits, search_on, searched}
