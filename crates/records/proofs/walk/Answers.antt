@@ -1,6 +1,5 @@
 -- `records::walk` meets its contract. The loop's invariant: after i steps the value is the chain's element i. Assumes nothing.
 use mathlib.Core.Path.{◌∙◌}
-use Prim.Native.Nat.{◌-◌}
 use native.Mathlib.Omega.{arith}
 use Rattle.records.proofs.Laws.{walking_none, walking_next, walked}
 use Rattle.records.proofs.walk.Goals as goal
