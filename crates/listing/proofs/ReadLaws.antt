@@ -9,7 +9,6 @@ use borrow.Author.Tests.{lt-leb, eq-eqb, ne_eqb}
 use lib.Dec.{eqb}
 use lib.ListN.{length, drop, get_or, drop_of_length-le}
 use lib.Seq.{drop-cons}
-use Rattle.listing.specs.Lines.{decides_at_eleven}
 use Rattle.listing.specs.Listing.{line_feed, reads, ended, decides}
 
 -- an input that is shorter is not the line
@@ -65,10 +64,10 @@ module _ (input : List ℕ) (i : ℕ) (l : i < length input) where
   pub ended_later : (get_or input i 0 ≡ line_feed → ⊥) → ended (drop i input) ≡ ended (drop (i + 1) input)
   ended_later n = rw (first, ne_eqb (get_or input i 0) line_feed n, add-one i) refl
 
+-- what each byte that the search passes says
+pub ruleset passing = (ended_here, ended_later)
+
 -- nowhere
 pub ended_never : (input : List ℕ) (i : ℕ) → length input ≤ i → ended (drop i input) ≡ false
 unfolding ended
 ended_never input i h = rw (drop_of_length-le input h) refl
-
--- what the search stands on: whether eleven bytes came, and what each byte passed leaves of the question
-pub ruleset deciding = (decides_at_eleven, decides_few, ended_here, ended_later, ended_never)

@@ -1,7 +1,6 @@
 -- `listing::rounds::put_rounds` meets its contract. The loop's invariant: the lines of the rounds so far are written, their hashes summed, and
 -- the card is before the next round. Assumes nothing.
 use mathlib.Core.Path.{refl, ◌∙◌}
-use Prim.Native.Nat.{◌-◌}
 use native.Mathlib.Omega.{arith}
 use Rattle.listing.proofs.RunLaws.{ran_none, ran_length, is_round, round-fits, sum_fits, ran_next, ran_all}
 use Rattle.listing.proofs.rounds.put_rounds.Goals as goal
