@@ -9,7 +9,6 @@ use std::io;
 use std::io::{ErrorKind, Read};
 
 // What reading came to.
-#[derive(Clone, Copy)]
 enum Reading {
     // So many bytes came: they decide, or the input ended behind them.
     Line(usize),
