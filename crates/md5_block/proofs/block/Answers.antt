@@ -11,4 +11,4 @@ all_steps-s-requires c = record { adds = tabled tt; turns = tabled tt }
 pub returns : goal.returns
 returns c =
     block_is c.args.state c.args.bytes.now c.all_steps-s.result c.split-x.ensures c.all_steps-s.ensures
-    c.wrapping_add_u32-a.ensures c.wrapping_add_u32-b.ensures c.wrapping_add_u32-c.ensures c.wrapping_add_u32-d.ensures
+    c.wrapping_add_u32-a.ensures.value c.wrapping_add_u32-b.ensures.value c.wrapping_add_u32-c.ensures.value c.wrapping_add_u32-d.ensures.value

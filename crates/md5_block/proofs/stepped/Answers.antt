@@ -10,6 +10,6 @@ rotated-requires c =
 pub returns : goal.returns
 returns c =
     let i = c.args.i in
-    step_is c.args.x.now c.args.s i c.word_number-k.ensures.0 c.mixed.ensures c.wrapping_add_u32-m.ensures
-    c.wrapping_add_u32-w.ensures (c.requires.lent.adds.at i c.requires.i_bound) c.wrapping_add_u32-t.ensures (c.requires.lent.turns.at i c.requires.i_bound)
-    c.rotated.ensures c.wrapping_add_u32-a.ensures
+    step_is c.args.x.now c.args.s i c.word_number-k.ensures.0 c.mixed.ensures c.wrapping_add_u32-m.ensures.value
+    c.wrapping_add_u32-w.ensures.value (c.requires.lent.adds.at i c.requires.i_bound) c.wrapping_add_u32-t.ensures.value (c.requires.lent.turns.at i c.requires.i_bound)
+    c.rotated.ensures c.wrapping_add_u32-a.ensures.value

@@ -38,12 +38,12 @@ returns-then-list-entries c =
 pub slice_bounds-aside-end : goal.slice_bounds-aside-end
 slice_bounds-aside-end c =
     let list = c.args.list.now in
-    omega (arith, few _ _ _ list c.if-k-gt20.false c.if-schedule-gt3.false c.if-round-eq0.false _ c.power-end.ensures c.if-end-round.false c.if-round-end.false _ _ _ _ refl c.list_all-listed.ensures, c.list_all-listed.auto.1.1.1.1.1.0)
+    omega (arith, few _ _ _ list c.if-k-gt20.false c.if-schedule-gt3.false c.if-round-eq0.false _ c.power-end.ensures c.if-end-round.false c.if-round-end.false _ _ _ _ refl c.list_all-listed.ensures, c.list_all-listed.auto.list)
 
 pub slice_bounds-copy-end : goal.slice_bounds-copy-end
 slice_bounds-copy-end c =
     let list = c.args.list.now in
-    sym (length-take-le _ _ (omega (arith, few _ _ _ list c.if-k-gt20.false c.if-schedule-gt3.false c.if-round-eq0.false _ c.power-end.ensures c.if-end-round.false c.if-round-end.false _ _ _ _ refl c.list_all-listed.ensures, c.list_all-listed.auto.1.1.1.1.1.0)))
+    sym (length-take-le _ _ (omega (arith, few _ _ _ list c.if-k-gt20.false c.if-schedule-gt3.false c.if-round-eq0.false _ c.power-end.ensures c.if-end-round.false c.if-round-end.false _ _ _ _ refl c.list_all-listed.ensures, c.list_all-listed.auto.list)))
 
 pub copy-requires : goal.copy-requires
 copy-requires c =

@@ -6,11 +6,11 @@ use Rattle.records.proofs.Laws.{walking_none, walking_next, walked}
 use Rattle.records.proofs.walk.Goals as goal
 
 pub loop-i-init : goal.loop-i-init
-loop-i-init c = (omega arith, walking_none _ _ c.requires.1)
+loop-i-init c = (omega arith, walking_none _ _ c.requires.value_len)
 
 pub apply-requires : goal.apply-requires
 apply-requires c =
-    (c.requires.0, c.loop-i.invariant.1.sized ∙ c.loop-i.invariant.1.wide)
+    record { t = c.requires.t; value_len = c.loop-i.invariant.1.sized ∙ c.loop-i.invariant.1.wide }
 
 pub loop-i-smaller : goal.loop-i-smaller
 loop-i-smaller c = omega arith

@@ -21,13 +21,13 @@ pub optimal_done-requires : goal.optimal_done-requires
 optimal_done-requires c = asked (goal.at.optimal_done-requires c).Else-r-whole
 
 pub returns-in-0 : goal.returns-in-0
-returns-in-0 c = done_0 _ _ _ (asked (goal.at.returns-in-0 c).Else-r-whole).3 c.in-0.keys1
+returns-in-0 c = done_0 _ _ _ (asked (goal.at.returns-in-0 c).Else-r-whole).3 c.in-0.is
 
 pub returns-in-1 : goal.returns-in-1
-returns-in-1 c = done_1 _ _ _ (asked (goal.at.returns-in-1 c).Else-r-whole).2 (asked (goal.at.returns-in-1 c).Else-r-whole).3 c.in-1.keys2
+returns-in-1 c = done_1 _ _ _ (asked (goal.at.returns-in-1 c).Else-r-whole).2 (asked (goal.at.returns-in-1 c).Else-r-whole).3 c.in-1.is
 
 pub returns-in-2 : goal.returns-in-2
-returns-in-2 c = done_2 _ _ _ _ c.in-2.keys3 c.speed2_done.ensures
+returns-in-2 c = done_2 _ _ _ _ c.in-2.is c.speed2_done.ensures
 
 pub returns-in_default : goal.returns-in_default
-returns-in_default c = let m = c.in_default.rest in done_3 _ _ _ _ (three _ c.requires.0 m.0.0.1 m.0.1 m.1) c.optimal_done.ensures
+returns-in_default c = let m = c.in_default.in_default-own.rest in done_3 _ _ _ _ (three _ c.requires.0 m.0.0.1 m.0.1 m.1) c.optimal_done.ensures

@@ -4,39 +4,29 @@ use mathlib.Core.Path.{refl}
 use Prim.Native.Nat.{◌-◌, ◌^◌, ◌≤◌}
 use Rattle.pebbling.proofs.HashLaws.{Leftover, leftover, left_at}
 use Rattle.pebbling.proofs.hashes.optimal_left.Goals as goal
-use Rattle.pebbling.proofs.hashes.optimal_left.Goals.{Start, After-power-above}
-
--- P_k is in the second half of its preparing rounds
-second-half : (c : Start) → c.args.left.0 - c.args.whole ≤ 2 ^ (c.args.k - 1)
-second-half c = omega arith
-
-about : (c : After-power-above)
-    →
-    Leftover c.args.k (c.args.left.0 - c.args.whole) c.power-above.result c.bits.result
-about c = leftover _ _ _ _ (omega arith) (omega arith) (second-half c) c.bits.ensures c.power-above.ensures.is
 
 pub power-above-requires : goal.power-above-requires
 power-above-requires c =
     let n = c.bits.result in
-    omega (arith, (leftover c.args.k (c.args.left.0 - c.args.whole) (2 ^ n) n (omega arith) (omega arith) (second-half (goal.at.power-above-requires c).Start) c.bits.ensures refl).bits)
+    omega (arith, (leftover c.args.k (c.args.left.0 - c.args.whole) (2 ^ n) n (omega arith) (omega arith) (omega arith) c.bits.ensures refl).bits)
 
 pub curve-requires : goal.curve-requires
-curve-requires c = let l = about (goal.at.curve-requires c).After-power-above in omega arith
+curve-requires c = let l : Leftover c.args.k (c.args.left.0 - c.args.whole) c.power-above.result c.bits.result = leftover _ _ _ _ (omega arith) (omega arith) (omega arith) c.bits.ensures c.power-above.ensures.is in omega arith
 
 pub overflow_sub-above : goal.overflow_sub-above
-overflow_sub-above c = let l = about (goal.at.overflow_sub-above c).After-power-above in omega arith
+overflow_sub-above c = let l : Leftover c.args.k (c.args.left.0 - c.args.whole) c.power-above.result c.bits.result = leftover _ _ _ _ (omega arith) (omega arith) (omega arith) c.bits.ensures c.power-above.ensures.is in omega arith
 
 pub curve-requires-2 : goal.curve-requires-2
-curve-requires-2 c = let l = about (goal.at.curve-requires-2 c).After-power-above in omega arith
+curve-requires-2 c = let l : Leftover c.args.k (c.args.left.0 - c.args.whole) c.power-above.result c.bits.result = leftover _ _ _ _ (omega arith) (omega arith) (omega arith) c.bits.ensures c.power-above.ensures.is in omega arith
 
 pub overflow_sub-twice : goal.overflow_sub-twice
-overflow_sub-twice c = let l = about (goal.at.overflow_sub-twice c).After-power-above in omega arith
+overflow_sub-twice c = let l : Leftover c.args.k (c.args.left.0 - c.args.whole) c.power-above.result c.bits.result = leftover _ _ _ _ (omega arith) (omega arith) (omega arith) c.bits.ensures c.power-above.ensures.is in omega arith
 
 pub overflow_sub-twice-2 : goal.overflow_sub-twice-2
-overflow_sub-twice-2 c = let l = about (goal.at.overflow_sub-twice-2 c).After-power-above in omega arith
+overflow_sub-twice-2 c = let l : Leftover c.args.k (c.args.left.0 - c.args.whole) c.power-above.result c.bits.result = leftover _ _ _ _ (omega arith) (omega arith) (omega arith) c.bits.ensures c.power-above.ensures.is in omega arith
 
 pub overflow_add-result : goal.overflow_add-result
-overflow_add-result c = let l = about (goal.at.overflow_add-result c).After-power-above in omega arith
+overflow_add-result c = let l : Leftover c.args.k (c.args.left.0 - c.args.whole) c.power-above.result c.bits.result = leftover _ _ _ _ (omega arith) (omega arith) (omega arith) c.bits.ensures c.power-above.ensures.is in omega arith
 
 pub returns : goal.returns
 returns c =
