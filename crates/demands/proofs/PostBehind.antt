@@ -1,11 +1,11 @@
 -- Bytes behind a post's record are neither read nor written, by an enrol, by an offer or by many offers. The record may be damaged: all that is
 -- asked is that it has a record's bytes. Assumes nothing.
-use Rattle.std.specs.Prelude.{◌≡◌, ℕ, ◌+◌, ◌≤◌, ◌<◌, get_or}
+use Rattle.std.specs.Prelude.{◌≡◌, ℕ, ◌≤◌}
 use Rattle.std.proofs.Math.Path.{refl, ap}
 use Rattle.std.proofs.Common.{sym, ◌∙◌, arith, length-take}
 use mathlib.Core.List.{List, [], ◌∷◌, ◌++◌}
 use borrow.Author.Tests.{le-ltb}
-use Rattle.std.proofs.Math.ListN.{length, length-append, get_or-append}
+use Rattle.std.proofs.Math.ListN.{length, length-append}
 use Rattle.lists.specs.Writing.{over_length}
 use Rattle.oneway.specs.Laws.{width_small}
 use Rattle.oneway.specs.Step.{step}
@@ -14,39 +14,19 @@ use Rattle.post.specs.declared.Found.TheVariants.{At, Nothing}
 use Rattle.post.specs.declared.Head.{Head}
 use Rattle.post.specs.declared.Inspected.{Inspected}
 use Rattle.post.specs.declared.Inspected.TheVariants.{Refused, Post}
-use Rattle.post.specs.Record.{size, chain_of, width_of, marked, head_bytes, post_bytes, head_of, anchor_of, held_value}
+use Rattle.post.specs.Record.{size, chain_of, width_of, head_bytes, post_bytes, head_of, anchor_of}
 use Rattle.post.specs.Refused.{passing, numbers, room_for, enrol_judged, inspect_paid, inspect_of, ready, offer_judged}
 use Rattle.post.specs.Promises.{unpaid, judged_enrol_says, judged_enrol_post, enrol_must_say, enrol_post, limit_of, search_finds, credited, found_says, found_post, judged_offer_says, judged_offer_post, offer_must_say, offer_post}
 use Rattle.post.specs.Search.{fewest}
 use Rattle.post.specs.Sound.{enrollable, searchable}
-use Rattle.demands.specs.Front.{longer, part_front, over-front}
+use Rattle.demands.specs.Front.{longer, over-front}
 use Rattle.demands.specs.PostBehind.{offers}
-
--- ---- what is read of a record, damaged or not
+use Rattle.demands.proofs.PostRead.{head_same, marked_same, anchor_same, held_same}
 
 module _ (own rest : List ℕ) (whole : size ≤ length own) where
-  byte : (n : ℕ) → n < 8 → get_or (own ++ rest) n 0 ≡ get_or own n 0
-  byte n h = get_or-append own rest 0 n (omega (arith, whole))
-
-  head_same : head_of (own ++ rest) ≡ head_of own
-  unfolding head_of
-  head_same = rw (byte 2 (omega arith), byte 3 (omega arith), part_front own rest 4 4 (omega (arith, whole))) refl
-
-  marked_same : marked (own ++ rest) ≡ marked own
-  unfolding marked
-  marked_same = rw (byte 0 (omega arith), byte 1 (omega arith)) refl
-
-  anchor_same : (head : Head) → anchor_of head (own ++ rest) ≡ anchor_of head own
-  unfolding anchor_of
-  anchor_same head = part_front own rest (width_of head) 8 (omega (arith, whole, width_small (chain_of head)))
-
-  held_same : (head : Head) → held_value head (own ++ rest) ≡ held_value head own
-  unfolding held_value
-  held_same head = part_front own rest (width_of head) (8 + width_of head) (omega (arith, whole, width_small (chain_of head)))
-
   paid_same : (head : Head) → inspect_paid (own ++ rest) head ≡ inspect_paid own head
   unfolding inspect_paid
-  paid_same head = rw (held_same head, anchor_same head) refl
+  paid_same head = rw (held_same own rest whole head, anchor_same own rest whole head) refl
 
   inspected_same : inspect_of (own ++ rest) ≡ inspect_of own
   unfolding inspect_of
@@ -54,8 +34,8 @@ module _ (own rest : List ℕ) (whole : size ≤ length own) where
       rw (
         le-ltb (length (own ++ rest)) size (longer own rest size whole),
         le-ltb (length own) size whole,
-        marked_same,
-        head_same,
+        marked_same own rest whole,
+        head_same own rest whole,
         go (numbers (head_of own)),
       ) refl
     where
@@ -72,7 +52,7 @@ module _ (own rest : List ℕ) (whole : size ≤ length own) where
 
     found_same : (head : Head) → search_finds (own ++ rest) value gap head ≡ search_finds own value gap head
     unfolding search_finds
-    found_same head = ap (λ (held : List ℕ). fewest (step (chain_of head)) (limit_of gap head) held value) (held_same head)
+    found_same head = ap (λ (held : List ℕ). fewest (step (chain_of head)) (limit_of gap head) held value) (held_same own rest whole head)
 
     -- the record that a credit writes has a record's bytes
     credit_within : (head : Head) (g : ℕ) → length value ≡ width_of head → length (post_bytes (credited g head) (anchor_of head own) value) ≤ length own
@@ -97,7 +77,7 @@ module _ (own rest : List ℕ) (whole : size ≤ length own) where
       where
         by : (head : Head) → length value ≡ width_of head → (found : Found) → found_post head (own ++ rest) value found ≡ found_post head own value found ++ rest
         by head wide (At g) =
-            rw (anchor_same head) (over-front own rest (post_bytes (credited g head) (anchor_of head own) value) (credit_within head g wide))
+            rw (anchor_same own rest whole head) (over-front own rest (post_bytes (credited g head) (anchor_of head own) value) (credit_within head g wide))
         by head wide Nothing = refl
 
         go : (seen : Inspected) → offer_judged own value gap ≡ seen → judged_offer_post (own ++ rest) value gap seen ≡ judged_offer_post own value gap seen ++ rest
