@@ -14,8 +14,8 @@ const SEED: [u8; 16] = *b"perchmellow seed";
 
 // n steps of a chain, in place.
 fn steps(chain: Chain, n: u32, value: &mut [u8])
-    requires t { T (known chain.function) }
-    requires value_len { length value.old ≡ width chain }
+    requires known_function { T (known chain.function) }
+    requires whole_value { length value.old ≡ width chain }
     ensures { length value.new ≡ width chain }
 {
     for _ in 0..n {
