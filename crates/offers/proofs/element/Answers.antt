@@ -14,6 +14,6 @@ slice_bounds-apply-end c = sym (length-take-le c.width-w.result c.loop-i.value (
 pub apply-requires : goal.apply-requires
 unfolding known
 apply-requires c = record {
-  t = tt;
-  value_len = length-take-le c.width-w.result c.loop-i.value (omega (arith, width_small (record { function = 0 }))) ∙ c.width-w.ensures;
+  known_function = tt;
+  whole_value = length-take-le c.width-w.result c.loop-i.value (omega (arith, width_small (record { function = 0 }))) ∙ c.width-w.ensures;
 }
