@@ -1,3 +1,2 @@
 // What is demanded of several calls together, or of every call alike: theorems, and no code.
 #![tactic(auto)]
-

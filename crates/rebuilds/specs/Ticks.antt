@@ -8,15 +8,12 @@ use Rattle.std.proofs.Common.{◌∙◌, arith}
 use mathlib.Core.List.{List, [], ◌∷◌, map}
 use Prim.Native.Nat.{ℕ, zero, suc, ◌+◌, ◌/◌, ◌^◌, ◌≤◌, ◌<◌}
 use borrow.Author.Tests.{eq-eqb, le-ltb}
-use Rattle.std.proofs.Math.ListN.{take}
 use Rattle.std.proofs.Math.Pow.{pow_pos, pow_mono}
-use Rattle.std.proofs.Math.Seq.{take_at}
 use Rattle.levels.specs.Levels.{level, first_round, allowed_holds, level_small, first_round_pays, ticks_are_rounds_left}
 use Rattle.lists.specs.Writing.{over}
 use Rattle.oneway.specs.Step.{known, width, step}
 use Rattle.oneway.specs.declared.Chain.{Chain}
 use Rattle.pebbling.specs.Recursion.{schedule, positions, work, chain}
-use Rattle.records.specs.Chains.{chain_length}
 use Rattle.card.specs.declared.Answer.TheVariants.{Done}
 use Rattle.card.specs.declared.Inspected.TheVariants.{Card}
 use Rattle.card.specs.Record.{head_at, slots_size, size, card_bytes}
@@ -147,20 +144,6 @@ module _ (function n s : ℕ) (seed lent : List ℕ) (is : Sold function n s see
     sold_card_says_6 out =
         ap (λ (b : List ℕ). round_must_say b out) (runs_on n)
         ∙ rebuilt_spent_card_says_6 function k s seed lent given_of (first_round n) from outs wide n out left
-
-  -- ---- its anchor is one step from its first tick
-  pub first_of_n_ticks_leads_to_the_anchor : (outs : ℕ → List ℕ) → ((m : ℕ) → width c ≤ length (outs m)) → (out : List ℕ) → width c ≤ length out
-      → step c (take (width c) (round_out (sold_card function n s seed lent outs 0) (outs 0))) ≡ take (width c) (anchor_ticks_out c n seed out)
-  unfolding chain
-  first_of_n_ticks_leads_to_the_anchor outs wide out w = go n refl
-    where
-      go : (m : ℕ) → m ≡ n → step c (take (width c) (round_out (sold_card function n s seed lent outs 0) (outs 0))) ≡ take (width c) (anchor_ticks_out c n seed out)
-      go zero e = absurd (omega (arith, is.some))
-      go (suc i) e =
-          ap (λ (b : List ℕ). step c (take (width c) b)) (sold_round_pays outs wide 0 i (omega arith))
-          ∙ ap (step c) (take_at (chain (step c) seed i) _ (width c) (chain_length c seed is.seeded i))
-          ∙ sym (ap (take (width c)) (anchor_of_n_ticks function n seed is.known is.some is.few is.seeded out w ∙ ap (λ (m : ℕ). over (chain (step c) seed m) out) (sym e))
-          ∙ take_at (chain (step c) seed (suc i)) _ (width c) (chain_length c seed is.seeded (suc i)))
 
 -- for 2^k ticks `anchor_ticks` says and writes what `anchor` does, refusals included
 module _ (c : Chain) (k : ℕ) (small : k ≤ 20) (seed out : List ℕ) where

@@ -1,0 +1,4 @@
+pub mod Unchanged
+pub mod CardBehind
+pub mod PostBehind
+pub mod Calls

@@ -1,0 +1,159 @@
+-- Bytes behind a post's record are neither read nor written, by an enrol, by an offer or by many offers. The record may be damaged: all that is
+-- asked is that it has a record's bytes. Assumes nothing.
+use Rattle.std.specs.Prelude.{◌≡◌, ℕ, ◌+◌, ◌≤◌, ◌<◌, get_or}
+use Rattle.std.proofs.Math.Path.{refl, ap}
+use Rattle.std.proofs.Common.{sym, ◌∙◌, arith, length-take}
+use mathlib.Core.List.{List, [], ◌∷◌, ◌++◌}
+use borrow.Author.Tests.{le-ltb}
+use Rattle.std.proofs.Math.ListN.{length, length-append, get_or-append}
+use Rattle.lists.specs.Writing.{over_length}
+use Rattle.oneway.specs.Laws.{width_small}
+use Rattle.oneway.specs.Step.{step}
+use Rattle.post.specs.declared.Found.{Found}
+use Rattle.post.specs.declared.Found.TheVariants.{At, Nothing}
+use Rattle.post.specs.declared.Head.{Head}
+use Rattle.post.specs.declared.Inspected.{Inspected}
+use Rattle.post.specs.declared.Inspected.TheVariants.{Refused, Post}
+use Rattle.post.specs.Record.{size, chain_of, width_of, marked, head_bytes, post_bytes, head_of, anchor_of, held_value}
+use Rattle.post.specs.Refused.{passing, numbers, room_for, enrol_judged, inspect_paid, inspect_of, ready, offer_judged}
+use Rattle.post.specs.Promises.{unpaid, judged_enrol_says, judged_enrol_post, enrol_must_say, enrol_post, limit_of, search_finds, credited, found_says, found_post, judged_offer_says, judged_offer_post, offer_must_say, offer_post}
+use Rattle.post.specs.Search.{fewest}
+use Rattle.post.specs.Sound.{enrollable, searchable}
+use Rattle.demands.specs.Front.{longer, part_front, over-front}
+use Rattle.demands.specs.PostBehind.{offers}
+
+-- ---- what is read of a record, damaged or not
+
+module _ (own rest : List ℕ) (whole : size ≤ length own) where
+  byte : (n : ℕ) → n < 8 → get_or (own ++ rest) n 0 ≡ get_or own n 0
+  byte n h = get_or-append own rest 0 n (omega (arith, whole))
+
+  head_same : head_of (own ++ rest) ≡ head_of own
+  unfolding head_of
+  head_same = rw (byte 2 (omega arith), byte 3 (omega arith), part_front own rest 4 4 (omega (arith, whole))) refl
+
+  marked_same : marked (own ++ rest) ≡ marked own
+  unfolding marked
+  marked_same = rw (byte 0 (omega arith), byte 1 (omega arith)) refl
+
+  anchor_same : (head : Head) → anchor_of head (own ++ rest) ≡ anchor_of head own
+  unfolding anchor_of
+  anchor_same head = part_front own rest (width_of head) 8 (omega (arith, whole, width_small (chain_of head)))
+
+  held_same : (head : Head) → held_value head (own ++ rest) ≡ held_value head own
+  unfolding held_value
+  held_same head = part_front own rest (width_of head) (8 + width_of head) (omega (arith, whole, width_small (chain_of head)))
+
+  paid_same : (head : Head) → inspect_paid (own ++ rest) head ≡ inspect_paid own head
+  unfolding inspect_paid
+  paid_same head = rw (held_same head, anchor_same head) refl
+
+  inspected_same : inspect_of (own ++ rest) ≡ inspect_of own
+  unfolding inspect_of
+  inspected_same =
+      rw (
+        le-ltb (length (own ++ rest)) size (longer own rest size whole),
+        le-ltb (length own) size whole,
+        marked_same,
+        head_same,
+        go (numbers (head_of own)),
+      ) refl
+    where
+      go : (seen : Inspected) → passing seen (inspect_paid (own ++ rest)) ≡ passing seen (inspect_paid own)
+      go (Refused x) = refl
+      go (Post head) = paid_same head
+
+  -- ---- what an offer says and leaves
+
+  module _ (value : List ℕ) (gap : ℕ) where
+    judged_same : offer_judged (own ++ rest) value gap ≡ offer_judged own value gap
+    unfolding offer_judged
+    judged_same = ap (λ (seen : Inspected). passing seen (ready value gap)) inspected_same
+
+    found_same : (head : Head) → search_finds (own ++ rest) value gap head ≡ search_finds own value gap head
+    unfolding search_finds
+    found_same head = ap (λ (held : List ℕ). fewest (step (chain_of head)) (limit_of gap head) held value) (held_same head)
+
+    -- the record that a credit writes has a record's bytes
+    credit_within : (head : Head) (g : ℕ) → length value ≡ width_of head → length (post_bytes (credited g head) (anchor_of head own) value) ≤ length own
+    unfolding post_bytes head_bytes anchor_of
+    credit_within head g wide =
+        let w = width_small (chain_of head) in
+        simp (length-append, length-take) (omega (arith, whole, w, wide))
+
+    -- the offer says the same
+    pub offer_says_the_same : offer_must_say (own ++ rest) value gap ≡ offer_must_say own value gap
+    unfolding offer_must_say
+    offer_says_the_same = rw judged_same (go (offer_judged own value gap))
+      where
+        go : (seen : Inspected) → judged_offer_says (own ++ rest) value gap seen ≡ judged_offer_says own value gap seen
+        go (Refused x) = refl
+        go (Post head) = ap found_says (found_same head)
+
+    -- it leaves the record the same, and the bytes behind it as they are
+    pub offer_leaves_the_same : offer_post (own ++ rest) value gap ≡ offer_post own value gap ++ rest
+    unfolding offer_post
+    offer_leaves_the_same = rw judged_same (go (offer_judged own value gap) refl)
+      where
+        by : (head : Head) → length value ≡ width_of head → (found : Found) → found_post head (own ++ rest) value found ≡ found_post head own value found ++ rest
+        by head wide (At g) =
+            rw (anchor_same head) (over-front own rest (post_bytes (credited g head) (anchor_of head own) value) (credit_within head g wide))
+        by head wide Nothing = refl
+
+        go : (seen : Inspected) → offer_judged own value gap ≡ seen → judged_offer_post (own ++ rest) value gap seen ≡ judged_offer_post own value gap seen ++ rest
+        go (Refused x) q = refl
+        go (Post head) q = rw (found_same head) (by head (searchable own value gap head q).1.wide (search_finds own value gap head))
+
+    -- which is as long as it was
+    offer_keeps_the_length : length (offer_post own value gap) ≡ length own
+    unfolding offer_post
+    offer_keeps_the_length = go (offer_judged own value gap) refl
+      where
+        by : (head : Head) → length value ≡ width_of head → (found : Found) → length (found_post head own value found) ≡ length own
+        by head wide (At g) = over_length (post_bytes (credited g head) (anchor_of head own) value) own (credit_within head g wide)
+        by head wide Nothing = refl
+
+        go : (seen : Inspected) → offer_judged own value gap ≡ seen → length (judged_offer_post own value gap seen) ≡ length own
+        go (Refused x) q = refl
+        go (Post head) q = by head (searchable own value gap head q).1.wide (search_finds own value gap head)
+
+-- so any number of offers leaves the bytes behind the record as they are, and the record as if they were not there
+pub offers_leave_the_same : (own rest : List ℕ) (os : List (List ℕ × ℕ)) → size ≤ length own → offers (own ++ rest) os ≡ offers own os ++ rest
+unfolding offers
+offers_leave_the_same own rest [] whole = refl
+offers_leave_the_same own rest (offer ∷ more) whole =
+    ap (λ (b : List ℕ). offers b more) (offer_leaves_the_same own rest whole offer.0 offer.1)
+    ∙ offers_leave_the_same (offer_post own offer.0 offer.1) rest more (omega (arith, offer_keeps_the_length own rest whole offer.0 offer.1))
+
+-- two buffers that begin with the same record get the same answer
+pub same_record_same_answer : (own rest₁ rest₂ value : List ℕ) (gap : ℕ) → size ≤ length own
+    → offer_must_say (own ++ rest₁) value gap ≡ offer_must_say (own ++ rest₂) value gap
+same_record_same_answer own rest₁ rest₂ value gap whole =
+    offer_says_the_same own rest₁ whole value gap ∙ sym (offer_says_the_same own rest₂ whole value gap)
+
+-- ---- enrol
+
+module _ (function k : ℕ) (anchor own rest : List ℕ) (whole : size ≤ length own) where
+  enrol_judged_same : enrol_judged (unpaid function k) anchor (own ++ rest) ≡ enrol_judged (unpaid function k) anchor own
+  unfolding enrol_judged room_for
+  enrol_judged_same = go (numbers (unpaid function k))
+    where
+      go : (seen : Inspected) → passing seen (room_for anchor (own ++ rest)) ≡ passing seen (room_for anchor own)
+      go (Refused x) = refl
+      go (Post head) = rw (le-ltb (length (own ++ rest)) size (longer own rest size whole), le-ltb (length own) size whole) refl
+
+  pub enrol_says_the_same : enrol_must_say function k anchor (own ++ rest) ≡ enrol_must_say function k anchor own
+  unfolding enrol_must_say
+  enrol_says_the_same = ap judged_enrol_says enrol_judged_same
+
+  pub enrol_leaves_the_same : enrol_post function k anchor (own ++ rest) ≡ enrol_post function k anchor own ++ rest
+  unfolding enrol_post
+  enrol_leaves_the_same = rw enrol_judged_same (go (enrol_judged (unpaid function k) anchor own) refl)
+    where
+      within : (head : Head) → length anchor ≡ width_of head → length (post_bytes head anchor anchor) ≤ length own
+      within head wide = unfold post_bytes head_bytes in simp length-append (omega (arith, whole, width_small (chain_of head), wide))
+
+      go : (seen : Inspected) → enrol_judged (unpaid function k) anchor own ≡ seen
+          → judged_enrol_post anchor (own ++ rest) seen ≡ judged_enrol_post anchor own seen ++ rest
+      go (Refused x) q = refl
+      go (Post head) q = over-front own rest (post_bytes head anchor anchor) (within head (enrollable (unpaid function k) anchor own head q).1.anchored)
