@@ -1,5 +1,5 @@
-// What the programs print with: text, numbers, bytes in hexadecimal and the schedules' names, to standard output. Each answers the
-// error of a write that fails.
+// What the programs print with: text, numbers, bytes in hexadecimal and the schedules' names, to standard output. A write that fails
+// is answered as an error.
 #![tactic(auto)]
 
 ghost use Rattle.std.specs.Prelude.{◌≡◌, ◌<◌};
