@@ -7,7 +7,7 @@ use mathlib.Core.List.{List, [], ◌∷◌, ◌++◌}
 use Prim.Native.Nat.{ℕ, suc, ◌+◌, ◌-◌, ◌*◌, ◌^◌, ◌≤◌, ◌<◌}
 use native.Mathlib.Nat.{eq-zero-or-pos, mul-le-mul_left}
 use native.Mathlib.Omega.{arith}
-use borrow.Author.Tests.{ltb-false, not-false, lt-ltb, le-ltb, eq-eqb, ne_eqb}
+use borrow.Author.Tests.{lt-ltb, le-ltb, eq-eqb, ne_eqb}
 use lib.Dec.{T, eqb, ltb}
 use lib.ListN.{length, take, drop, replicate, length-map, length-replicate, replicate-append-replicate}
 use lib.Pow.{pow_pos}
@@ -317,18 +317,18 @@ module _ (function n s : ℕ) (seed card : List ℕ) (x : Bool) (e : x ≡ known
   ticks_1 f = ticks_refused UnknownFunction (rw (← e, f) refl)
 
   module _ (t : x ≡ true) where
-    pub ticks_3 : ltb 3 s ≡ true → StartedTicks function n s seed card (NotDone UnknownSchedule) card
+    pub ticks_3 : 3 < s → StartedTicks function n s seed card (NotDone UnknownSchedule) card
     unfolding start_ticks_judged
-    ticks_3 a = ticks_refused UnknownSchedule (rw (← e, t, a) refl)
+    ticks_3 a = ticks_refused UnknownSchedule (rw (← e, t, lt-ltb 3 s a) refl)
 
-    module _ (a : ltb 3 s ≡ false) (y : Bool) (q : y ≡ allowed n) where
-      pub ticks_10 : not y ≡ true → StartedTicks function n s seed card (NotDone BadTicks) card
+    module _ (a : s ≤ 3) (y : Bool) (q : y ≡ allowed n) where
+      pub ticks_10 : y ≡ false → StartedTicks function n s seed card (NotDone BadTicks) card
       unfolding start_ticks_judged
-      ticks_10 f = ticks_refused BadTicks (rw (← e, t, a, ← q, f) refl)
+      ticks_10 f = ticks_refused BadTicks (rw (← e, t, le-ltb 3 s a, ← q, f) refl)
 
-      module _ (u : not y ≡ false) where
+      module _ (u : y ≡ true) where
         pub ticks_range : (0 < n) × (n ≤ 1048576)
-        ticks_range = allowed_range n (sym q ∙ not-false y u)
+        ticks_range = allowed_range n (sym q ∙ u)
 
         pub ticks_rebuilt : (k r : ℕ) (answer : Answer) (card' : List ℕ) → k ≡ level n → r ≡ 2 ^ suc k - n → Rebuilt function k s r seed card answer card'
             → StartedTicks function n s seed card answer card'
@@ -346,7 +346,7 @@ module _ (function n s : ℕ) (seed card : List ℕ) (x : Bool) (e : x ≡ known
                 let first = first_round_pays n some few in
                 rw (l, round)
                 (rebuild_judged_lem (head_at function (level n) s (first_round n)) seed card
-                (record { known = sym e ∙ t; small = level_small n few; schedule = ltb-false 3 s a })
+                (record { known = sym e ∙ t; small = level_small n few; schedule = a })
                 (omega (arith, first.0, pow_pos (level n)))
                 (omega (arith, first.1))
-                ∙ unfold start_ticks_judged in rw (← e, t, a, ← q, u) refl)
+                ∙ unfold start_ticks_judged in rw (← e, t, le-ltb 3 s a, ← q, u) refl)

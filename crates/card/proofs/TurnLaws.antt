@@ -1,13 +1,11 @@
 -- What the code of a round comes to, over plain lists and numbers, in the order of the source. Assumes nothing.
 use mathlib.Core.Path.{◌≡◌, refl, sym, ap, ◌∙◌}
-use mathlib.Core.Bool.{true, false}
 use mathlib.Core.List.{List, [], ◌∷◌, ◌++◌, append-nil}
 use Prim.Native.Nat.{ℕ, zero, suc, ◌+◌, ◌-◌, ◌^◌, ◌≤◌, ◌<◌}
 use native.Mathlib.Nat.{mul-le-mul_left}
 use native.Mathlib.Numerals.{add-one}
 use native.Mathlib.Omega.{arith}
-use borrow.Author.Tests.{eqb-false, ltb-false}
-use lib.Dec.{eqb, ltb}
+use borrow.Author.Tests.{eq-eqb, ne_eqb, lt-ltb}
 use lib.ListN.{length, take, drop, replicate}
 use lib.Pow.{pow_mono}
 use lib.Seq.{length-take-le}
@@ -204,23 +202,23 @@ module _ (head : Head) (card out : List ℕ) (ok : Sound card head) (p : ℕ) (q
   end : p ≡ 2 ^ suc head.k
   end = q.is ∙ ap (λ (x : ℕ). 2 ^ x) (add-one head.k)
 
-  pub turned_spent : eqb head.round.0 p ≡ true → Turned head card out (NoRound Spent) card out
+  pub turned_spent : head.round.0 ≡ p → Turned head card out (NoRound Spent) card out
   turned_spent t =
-      let j : ready out head ≡ Refused Spent = unfold ready in rw (← end, t) refl in
+      let j : ready out head ≡ Refused Spent = unfold ready in rw (← end, eq-eqb head.round.0 p t) refl in
       record { says = rw j refl; leaves = rw j refl; writes = rw j refl }
 
-  module _ (f : eqb head.round.0 p ≡ false) (w : ℕ) (wide : w ≡ width_of head) where
-    pub turned_short : ltb (length out) w ≡ true → Turned head card out (NoRound WrongLength) card out
+  module _ (f : head.round.0 ≡ p → ⊥) (w : ℕ) (wide : w ≡ width_of head) where
+    pub turned_short : length out < w → Turned head card out (NoRound WrongLength) card out
     turned_short t =
-        let j : ready out head ≡ Refused WrongLength = unfold ready in rw (← end, f, ← wide, t) refl in
+        let j : ready out head ≡ Refused WrongLength = unfold ready in rw (← end, ne_eqb head.round.0 p f, ← wide, lt-ltb (length out) w t) refl in
         record { says = rw j refl; leaves = rw j refl; writes = rw j refl }
 
-    pub run_asks : ltb (length out) w ≡ false → Running head card out
+    pub run_asks : w ≤ length out → Running head card out
     run_asks t =
         record {
           sound = ok;
-          before = omega (arith, end, ok.upto, eqb-false head.round.0 p f);
-          wide = omega (arith, wide, ltb-false (length out) w t);
+          before = omega (arith, end, ok.upto, f);
+          wide = omega (arith, wide, t);
         }
 
 -- ---- round

@@ -15,10 +15,10 @@ use Rattle.std.proofs.Math.Seq.{take_at}
 use Rattle.records.specs.Chains.{chain_length}
 use Rattle.lists.specs.Values.{joined}
 use Rattle.lists.specs.Writing.{over}
-use Rattle.oneway.specs.Step.{known, width, step}
+use Rattle.oneway.specs.Step.{width, step}
 use Rattle.oneway.specs.declared.Chain.{Chain}
 use Rattle.pebbling.specs.Demands.{preparing_rounds_are_quiet, paying_rounds_pay, card_is_quiet, card_pays, optimal_paying_rounds_are_short}
-use Rattle.pebbling.specs.Recursion.{schedule, positions, put_out, work, tick, round, before, chain, slots}
+use Rattle.pebbling.specs.Recursion.{schedule, positions, put_out, work, tick, before, chain, slots}
 use Rattle.refusals.specs.declared.Refusal.TheVariants.{WrongLength, Spent, NoRoom}
 use Rattle.card.specs.declared.Head.{Head}
 use Rattle.card.specs.declared.Inspected.TheVariants.{Refused, Card}

@@ -1,6 +1,6 @@
-// The calls for C and Rust: one exported function a call. Each hands what it is lent to the call of that name and answers the call's
-// answer as one word: bits 0-7 the refusal's number, 0 for none; bits 8-15 a kind, 1 for a tick, a credit or a yes, else 0; bits 16-39
-// the first number (position, how many positions, ticks credited); bits 40-63 the second (hashes). include/perchmellow.h declares them.
+// The calls for C and Rust: one function a call. Each hands what it is lent to the call of that name and answers the call's answer as
+// one word: bits 0-7 the refusal's number, 0 for none; bits 8-15 a kind, 1 for a tick, a credit or a yes, else 0; bits 16-39 the first
+// number (position, how many positions, ticks credited); bits 40-63 the second (hashes). `perchmellow_c` exports them under their names.
 #![tactic(auto)]
 
 ghost use Rattle.std.specs.Prelude.{◌≡◌, ◌≤◌};
@@ -96,14 +96,7 @@ fn settle_word(answer: SettleAnswer) -> u64
 // ---- the calls
 
 // card::start, for C and Rust.
-#[unsafe(no_mangle)]
-pub extern "C" fn perchmellow_start(
-    function: u32,
-    k: u32,
-    schedule: u32,
-    seed: &[u8],
-    card: &mut [u8],
-) -> u64
+pub fn perchmellow_start(function: u32, k: u32, schedule: u32, seed: &[u8], card: &mut [u8]) -> u64
     ensures { Exported done_word (λ a. Started function k schedule seed.now card.old a card.new) result }
 {
     let answer = card::start(function, k, schedule, seed, card);
@@ -111,8 +104,7 @@ pub extern "C" fn perchmellow_start(
 }
 
 // card::rebuild, for C and Rust.
-#[unsafe(no_mangle)]
-pub extern "C" fn perchmellow_rebuild(
+pub fn perchmellow_rebuild(
     function: u32,
     k: u32,
     schedule: u32,
@@ -127,8 +119,7 @@ pub extern "C" fn perchmellow_rebuild(
 }
 
 // card::start_ticks, for C and Rust.
-#[unsafe(no_mangle)]
-pub extern "C" fn perchmellow_start_ticks(
+pub fn perchmellow_start_ticks(
     function: u32,
     ticks: u32,
     schedule: u32,
@@ -142,8 +133,7 @@ pub extern "C" fn perchmellow_start_ticks(
 }
 
 // card::round, for C and Rust.
-#[unsafe(no_mangle)]
-pub extern "C" fn perchmellow_round(card: &mut [u8], out: &mut [u8]) -> u64
+pub fn perchmellow_round(card: &mut [u8], out: &mut [u8]) -> u64
     ensures { Exported round_word (λ a. Rounded card.old out.old a card.new out.new) result }
 {
     let answer = card::round(card, out);
@@ -151,8 +141,7 @@ pub extern "C" fn perchmellow_round(card: &mut [u8], out: &mut [u8]) -> u64
 }
 
 // pebbling::positions, for C and Rust.
-#[unsafe(no_mangle)]
-pub extern "C" fn perchmellow_positions(k: u32, schedule: u32, round: u32, list: &mut [u32]) -> u64
+pub fn perchmellow_positions(k: u32, schedule: u32, round: u32, list: &mut [u32]) -> u64
     ensures { Exported positions_word (λ a. Positioned k schedule round list.old a list.new) result }
 {
     let answer = pebbling::positions(k, schedule, round, list);
@@ -160,8 +149,7 @@ pub extern "C" fn perchmellow_positions(k: u32, schedule: u32, round: u32, list:
 }
 
 // card::anchor, for C and Rust.
-#[unsafe(no_mangle)]
-pub extern "C" fn perchmellow_anchor(function: u32, k: u32, seed: &[u8], out: &mut [u8]) -> u64
+pub fn perchmellow_anchor(function: u32, k: u32, seed: &[u8], out: &mut [u8]) -> u64
     ensures { Exported done_word (λ a. Anchored (record { function = function }) k seed.now out.old a out.new) result }
 {
     let answer = card::anchor(function, k, seed, out);
@@ -169,13 +157,7 @@ pub extern "C" fn perchmellow_anchor(function: u32, k: u32, seed: &[u8], out: &m
 }
 
 // card::anchor_ticks, for C and Rust.
-#[unsafe(no_mangle)]
-pub extern "C" fn perchmellow_anchor_ticks(
-    function: u32,
-    ticks: u32,
-    seed: &[u8],
-    out: &mut [u8],
-) -> u64
+pub fn perchmellow_anchor_ticks(function: u32, ticks: u32, seed: &[u8], out: &mut [u8]) -> u64
     ensures { Exported done_word (λ a. AnchoredTicks (record { function = function }) ticks seed.now out.old a out.new) result }
 {
     let answer = card::anchor_ticks(function, ticks, seed, out);
@@ -183,8 +165,7 @@ pub extern "C" fn perchmellow_anchor_ticks(
 }
 
 // post::enrol, for C and Rust.
-#[unsafe(no_mangle)]
-pub extern "C" fn perchmellow_enrol(function: u32, k: u32, anchor: &[u8], post: &mut [u8]) -> u64
+pub fn perchmellow_enrol(function: u32, k: u32, anchor: &[u8], post: &mut [u8]) -> u64
     ensures { Exported enrol_word (λ a. Enrolled function k anchor.now post.old a post.new) result }
 {
     let answer = post::enrol(function, k, anchor, post);
@@ -192,8 +173,7 @@ pub extern "C" fn perchmellow_enrol(function: u32, k: u32, anchor: &[u8], post: 
 }
 
 // post::offer, for C and Rust.
-#[unsafe(no_mangle)]
-pub extern "C" fn perchmellow_offer(post: &mut [u8], value: &[u8], gap: u32) -> u64
+pub fn perchmellow_offer(post: &mut [u8], value: &[u8], gap: u32) -> u64
     ensures { Exported offer_word (λ a. Offered post.old value.now gap a post.new) result }
 {
     let answer = post::offer(post, value, gap);
@@ -201,14 +181,7 @@ pub extern "C" fn perchmellow_offer(post: &mut [u8], value: &[u8], gap: u32) -> 
 }
 
 // post::settle, for C and Rust.
-#[unsafe(no_mangle)]
-pub extern "C" fn perchmellow_settle(
-    function: u32,
-    k: u32,
-    anchor: &[u8],
-    last: &[u8],
-    paid: u32,
-) -> u64
+pub fn perchmellow_settle(function: u32, k: u32, anchor: &[u8], last: &[u8], paid: u32) -> u64
     ensures { Exported settle_word (Settled function k anchor.now last.now paid) result }
 {
     let answer = post::settle(function, k, anchor, last, paid);

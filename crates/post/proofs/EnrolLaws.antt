@@ -10,7 +10,6 @@ use lib.Seq.{take_at, drop_at, drop-drop, length-take-le}
 use Rattle.lists.specs.Parts.{part_tail, part_length, put_tail, drop_put}
 use Rattle.lists.specs.Writing.{over}
 use Rattle.oneway.specs.Laws.{width_small, known_byte}
-use Rattle.oneway.specs.Step.{known}
 use Rattle.refusals.specs.declared.Refusal.{Refusal}
 use Rattle.refusals.specs.declared.Refusal.TheVariants.{WrongLength}
 use Rattle.post.specs.declared.Head.{Head}

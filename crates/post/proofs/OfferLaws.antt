@@ -5,12 +5,12 @@ use mathlib.Core.List.{List}
 use Prim.Native.Nat.{ℕ, ◌+◌, ◌-◌, ◌^◌, ◌≤◌}
 use native.Mathlib.Omega.{arith}
 use borrow.Author.Tests.{eq-eqb, ne_eqb}
-use lib.Dec.{eqb, ltb}
+use lib.Dec.{ltb}
 use lib.ListN.{length, take, drop}
 use lib.Pow.{pow_mono}
 use Rattle.lists.specs.Writing.{over}
 use Rattle.oneway.specs.Laws.{known_byte}
-use Rattle.oneway.specs.Step.{known, step}
+use Rattle.oneway.specs.Step.{step}
 use Rattle.pebbling.specs.Promises.{Power}
 use Rattle.refusals.specs.declared.Refusal.{Refusal}
 use Rattle.refusals.specs.declared.Refusal.TheVariants.{WrongLength, Spent, BadGap, NotTaken}
@@ -47,18 +47,18 @@ module _ (value : List ℕ) (gap : ℕ) (head : Head) (x : Bool) (e : x ≡ gap_
   ready_gap t = rw (← e, t) refl
 
   module _ (f : x ≡ false) (p : ℕ) (q : Power head.k p) where
-    pub ready_spent : eqb head.paid p ≡ true → Refused Spent ≡ ready value gap head
+    pub ready_spent : head.paid ≡ p → Refused Spent ≡ ready value gap head
     unfolding ready
-    ready_spent t = rw (← e, f, ← q.is, t) refl
+    ready_spent t = rw (← e, f, ← q.is, eq-eqb head.paid p t) refl
 
-    module _ (u : eqb head.paid p ≡ false) (w : ℕ) (wide : w ≡ width_of head) where
+    module _ (u : head.paid ≡ p → ⊥) (w : ℕ) (wide : w ≡ width_of head) where
       pub ready_strange : (length value ≡ w → ⊥) → Refused WrongLength ≡ ready value gap head
       unfolding ready
-      ready_strange n = rw (← e, f, ← q.is, u, ne_eqb (length value) (width_of head) (λ d. n (d ∙ sym wide))) refl
+      ready_strange n = rw (← e, f, ← q.is, ne_eqb head.paid p u, ne_eqb (length value) (width_of head) (λ d. n (d ∙ sym wide))) refl
 
       pub ready_all : length value ≡ w → Post head ≡ ready value gap head
       unfolding ready
-      ready_all l = rw (← e, f, ← q.is, u, eq-eqb (length value) (width_of head) (l ∙ wide)) refl
+      ready_all l = rw (← e, f, ← q.is, ne_eqb head.paid p u, eq-eqb (length value) (width_of head) (l ∙ wide)) refl
 
 -- ---- seek
 

@@ -9,7 +9,7 @@ use Rattle.lists.specs.Same.{same, same_eq, eq-same}
 use Rattle.records.specs.Chains.{chain_add}
 use Rattle.lists.specs.Writing.{over}
 use Rattle.oneway.specs.Laws.{width_small}
-use Rattle.oneway.specs.Step.{known, step}
+use Rattle.oneway.specs.Step.{step}
 use Rattle.pebbling.specs.Recursion.{chain}
 use Rattle.refusals.specs.Numbers.{said_of, not_refused}
 use Rattle.refusals.specs.declared.Refusal.{Refusal}

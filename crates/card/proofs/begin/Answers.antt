@@ -7,12 +7,12 @@ room_for-judged-requires c = c.requires.numbered.small
 
 pub lay-requires : goal.lay-requires
 lay-requires c =
-    lay_beginning c.args.head c.args.held.now c.args.seed.now c.args.card.now _ c.room_for-judged.ensures c.requires _ c.judged-in-Card-1.given.1
+    lay_beginning c.args.head c.args.held.now c.args.seed.now c.args.card.now _ c.room_for-judged.ensures c.requires _ c.in-Card.is
 
 pub returns-in-Refused : goal.returns-in-Refused
 returns-in-Refused c =
-    begun_refused c.args.head c.args.held.now c.args.seed.now c.args.card.now _ c.room_for-judged.ensures _ c.judged-1.given.1
+    begun_refused c.args.head c.args.held.now c.args.seed.now c.args.card.now _ c.room_for-judged.ensures _ c.in-Refused.is
 
 pub returns-in-Card : goal.returns-in-Card
 returns-in-Card c =
-    begun_done c.args.head c.args.held.now c.args.seed.now c.args.card.now _ c.room_for-judged.ensures _ _ c.judged-in-Card-1.given.1 c.lay.ensures
+    begun_done c.args.head c.args.held.now c.args.seed.now c.args.card.now _ c.room_for-judged.ensures _ _ c.in-Card.is c.lay.ensures

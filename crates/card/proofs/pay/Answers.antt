@@ -10,12 +10,12 @@ returns-then-round-power c =
 
 pub slice_bounds-copy-end : goal.slice_bounds-copy-end
 slice_bounds-copy-end c =
-    simp length-take (omega (arith, c.width.ensures, c.requires.first))
+    simp length-take (omega (arith, c.width-w.ensures, c.requires.first))
 
 pub copy-requires : goal.copy-requires
 copy-requires c =
-    simp length-take (omega (arith, c.width.ensures, c.requires.wide))
+    simp length-take (omega (arith, c.width-w.ensures, c.requires.wide))
 
 pub returns : goal.returns
 returns c =
-    paid_tick c.args.head _ c.args.slots.now c.args.out.now c.requires _ c.power.ensures c.if1.false _ _ _ c.width.ensures c.rounds_left-left.ensures c.copy.ensures
+    paid_tick c.args.head _ c.args.slots.now c.args.out.now c.requires _ c.power.ensures c.if-round-power.false _ _ _ c.width-w.ensures c.rounds_left-left.ensures c.copy.ensures

@@ -14,11 +14,14 @@ returns-then-out-w c =
 
 pub slice_bounds-walk-end-2 : goal.slice_bounds-walk-end-2
 slice_bounds-walk-end-2 c =
-    sym (length-take-le c.width-w.result c.copy.new.1.0 (omega (arith, c.copy.auto.1.0, c.if-out-w.false)))
+    sym (length-take-le c.width-w.result c.copy.new.to (omega (arith, c.copy.auto.to, c.if-out-w.false)))
 
 pub walk-requires : goal.walk-requires
 walk-requires c =
-    (c.requires, length-take-le c.width-w.result c.copy.new.1.0 (omega (arith, c.copy.auto.1.0, c.if-out-w.false)) ∙ c.width-w.ensures)
+    record {
+      t = c.requires;
+      value_len = length-take-le c.width-w.result c.copy.new.to (omega (arith, c.copy.auto.to, c.if-out-w.false)) ∙ c.width-w.ensures;
+    }
 
 pub returns : goal.returns
 returns c =

@@ -6,11 +6,11 @@ use Rattle.card.proofs.round.Goals as goal
 
 pub turn-requires : goal.turn-requires
 turn-requires c =
-    sound _ _ (sym c.inspect-seen.ensures ∙ c.seen-in-Card-1.given.1)
+    sound _ _ (sym c.inspect-seen.ensures ∙ c.in-Card.is)
 
 pub returns-in-Refused : goal.returns-in-Refused
-returns-in-Refused c = round_refused _ _ _ c.inspect-seen.ensures _ c.seen-1.given.1
+returns-in-Refused c = round_refused _ _ _ c.inspect-seen.ensures _ c.in-Refused.is
 
 pub returns-in-Card : goal.returns-in-Card
 returns-in-Card c =
-    round_turned _ _ _ c.inspect-seen.ensures _ _ _ _ c.seen-in-Card-1.given.1 c.turn.ensures
+    round_turned _ _ _ c.inspect-seen.ensures _ _ _ _ c.in-Card.is c.turn.ensures

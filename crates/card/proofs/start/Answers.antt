@@ -6,11 +6,11 @@ use Rattle.card.proofs.start.Goals as goal
 
 pub begin-requires : goal.begin-requires
 begin-requires c =
-    seed_begins _ (numbers_known _ _ (sym c.check_numbers-checked.ensures ∙ c.checked-in-Card-1.given.1))
+    seed_begins _ (numbers_known _ _ (sym c.check_numbers-checked.ensures ∙ c.in-Card.is))
 
 pub returns-in-Refused : goal.returns-in-Refused
-returns-in-Refused c = started_refused _ _ _ _ _ _ c.check_numbers-checked.ensures _ c.checked-1.given.1
+returns-in-Refused c = started_refused _ _ _ _ _ _ c.check_numbers-checked.ensures _ c.in-Refused.is
 
 pub returns-in-Card : goal.returns-in-Card
 returns-in-Card c =
-    started_begun _ _ _ _ _ _ c.check_numbers-checked.ensures _ _ _ c.checked-in-Card-1.given.1 c.begin.ensures
+    started_begun _ _ _ _ _ _ c.check_numbers-checked.ensures _ _ _ c.in-Card.is c.begin.ensures

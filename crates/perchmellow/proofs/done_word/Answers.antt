@@ -4,4 +4,4 @@ use Rattle.perchmellow.specs.Word.{done_word}
 use Rattle.perchmellow.proofs.done_word.Goals as goal
 
 pub returns-in-Refused : goal.returns-in-Refused
-returns-in-Refused c = c.refused.ensures ∙ sym (ap done_word c.answer-1.given.1)
+returns-in-Refused c = c.refused.ensures ∙ sym (ap done_word c.in-Refused.is)

@@ -5,12 +5,10 @@ use Rattle.perchmellow.specs.Word.{positions_word}
 use Rattle.perchmellow.proofs.positions_word.Goals as goal
 
 pub packed-requires : goal.packed-requires
-packed-requires c =
-    let f = rw c.answer-1.given.1 at c.requires in
-    (omega arith, record { first_fits = omega (arith, f.first_fits, f.second_fits); second_fits = omega (arith, f.first_fits, f.second_fits) })
+packed-requires c = record { kind_bound = omega arith; fits = rw c.in-Listed.is at c.requires }
 
 pub returns-in-Listed : goal.returns-in-Listed
-returns-in-Listed c = c.packed.ensures ∙ sym (ap positions_word c.answer-1.given.1)
+returns-in-Listed c = c.packed.ensures ∙ sym (ap positions_word c.in-Listed.is)
 
 pub returns-in-Refused : goal.returns-in-Refused
-returns-in-Refused c = c.refused.ensures ∙ sym (ap positions_word c.answer-in-Refused-1.given.1)
+returns-in-Refused c = c.refused.ensures ∙ sym (ap positions_word c.in-Refused.is)

@@ -4,4 +4,4 @@ use Rattle.perchmellow.specs.Word.{settle_word}
 use Rattle.perchmellow.proofs.settle_word.Goals as goal
 
 pub returns-in-Refused : goal.returns-in-Refused
-returns-in-Refused c = c.refused.ensures ∙ sym (ap settle_word c.answer-1.given.1)
+returns-in-Refused c = c.refused.ensures ∙ sym (ap settle_word c.in-Refused.is)

@@ -28,7 +28,10 @@ pub leads-requires : goal.leads-requires
 leads-requires c =
     let width = c.width-w in
     let copy = c.copy in
-    (c.requires.known, copy_wide c.args.chain c.args.last.now c.requires.wide _ width.ensures _ copy.ensures)
+    record {
+      t = c.requires.known;
+      value_len = copy_wide c.args.chain c.args.last.now c.requires.wide _ width.ensures _ copy.ensures;
+    }
 
 pub returns : goal.returns
 returns c =

@@ -6,18 +6,16 @@ use Rattle.post.proofs.enrol.Goals as goal
 
 pub lay-requires : goal.lay-requires
 lay-requires c =
-    let judge-enrol = c.judge_enrol-judged in
-    let judged2 = c.judged-in-Post-1 in
-    (enrollable _ _ _ _ (sym judge-enrol.ensures ∙ judged2.given.1)).1
+    let judged = c.judge_enrol-judged in
+    (enrollable _ _ _ _ (sym judged.ensures ∙ c.in-Post.is)).1
 
 pub returns-in-Refused : goal.returns-in-Refused
 returns-in-Refused c =
-    let judge-enrol = c.judge_enrol-judged in
-    enrolled_refused _ _ _ _ _ (sym judge-enrol.ensures ∙ c.judged-1.given.1)
+    let judged = c.judge_enrol-judged in
+    enrolled_refused _ _ _ _ _ (sym judged.ensures ∙ c.in-Refused.is)
 
 pub returns-in-Post : goal.returns-in-Post
 returns-in-Post c =
-    let judge-enrol = c.judge_enrol-judged in
-    let judged2 = c.judged-in-Post-1 in
+    let judged = c.judge_enrol-judged in
     let lay = c.lay in
-    enrolled_done _ _ _ _ _ _ (sym judge-enrol.ensures ∙ judged2.given.1) lay.ensures
+    enrolled_done _ _ _ _ _ _ (sym judged.ensures ∙ c.in-Post.is) lay.ensures

@@ -5,11 +5,10 @@ use Rattle.post.proofs.judge_enrol.Goals as goal
 
 pub returns-in-Refused : goal.returns-in-Refused
 returns-in-Refused c =
-    let check-numbers = c.check_numbers-checked in
-    enrol_refused _ _ _ _ check-numbers.ensures _ c.checked-1.given.1
+    let checked = c.check_numbers-checked in
+    enrol_refused _ _ _ _ checked.ensures _ c.in-Refused.is
 
 pub returns-in-Post : goal.returns-in-Post
 returns-in-Post c =
-    let check-numbers = c.check_numbers-checked in
-    let checked2 = c.checked-in-Post-1 in
-    c.room_for.ensures ∙ enrol_passed _ _ _ _ check-numbers.ensures _ checked2.given.1
+    let checked = c.check_numbers-checked in
+    c.room_for.ensures ∙ enrol_passed _ _ _ _ checked.ensures _ c.in-Post.is

@@ -6,16 +6,15 @@ use Rattle.post.proofs.judge_settle.Goals as goal
 
 pub settle_ready-requires : goal.settle_ready-requires
 settle_ready-requires c =
-    let check-numbers = c.check_numbers-checked in
-    numbers_small _ _ (sym check-numbers.ensures ∙ c.checked-in-Post-1.given.1)
+    let checked = c.check_numbers-checked in
+    numbers_small _ _ (sym checked.ensures ∙ c.in-Post.is)
 
 pub returns-in-Refused : goal.returns-in-Refused
 returns-in-Refused c =
-    let check-numbers = c.check_numbers-checked in
-    settle_refused _ _ _ _ check-numbers.ensures _ c.checked-1.given.1
+    let checked = c.check_numbers-checked in
+    settle_refused _ _ _ _ checked.ensures _ c.in-Refused.is
 
 pub returns-in-Post : goal.returns-in-Post
 returns-in-Post c =
-    let check-numbers = c.check_numbers-checked in
-    let checked2 = c.checked-in-Post-1 in
-    c.settle_ready.ensures ∙ settle_passed _ _ _ _ check-numbers.ensures _ checked2.given.1
+    let checked = c.check_numbers-checked in
+    c.settle_ready.ensures ∙ settle_passed _ _ _ _ checked.ensures _ c.in-Post.is

@@ -1,4 +1,5 @@
 -- `post::ready` meets its contract. Assumes nothing.
+use Rattle.std.proofs.Common.{rules}
 use Rattle.post.proofs.OfferLaws.{ready_gap, ready_spent, ready_strange, ready_all}
 use Rattle.post.proofs.ready.Goals as goal
 
@@ -9,11 +10,7 @@ returns-then-strange c =
     c.if-strange.true
 
 pub returns-then-spent : goal.returns-then-spent
-returns-then-spent c =
-    let gap-strange = c.gap_strange-strange in
-    let power = c.power in
-    ready_spent c.args.value.now c.args.gap c.args.head _ gap-strange.ensures
-    c.if-strange.false _ power.ensures c.if-spent.true
+returns-then-spent c = search (rules, ready_spent)
 
 pub returns-then-value-w : goal.returns-then-value-w
 returns-then-value-w c =

@@ -44,10 +44,10 @@ slice_bounds-search-end-2 c =
 pub search-requires : goal.search-requires
 search-requires c =
     let width = c.width-w in
-    let copy = c.copy in (
-      (walkable c.args.head c.args.value.now c.requires.sound.numbered c.requires.wide).known,
-      copy_wide (chain_of c.args.head) c.args.value.now c.requires.wide _ width.ensures _ copy.ensures,
-    )
+    let copy = c.copy in record {
+      t = (walkable c.args.head c.args.value.now c.requires.sound.numbered c.requires.wide).known;
+      value_len = copy_wide (chain_of c.args.head) c.args.value.now c.requires.wide _ width.ensures _ copy.ensures;
+    }
 
 pub returns : goal.returns
 returns c =

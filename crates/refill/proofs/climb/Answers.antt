@@ -1,16 +1,15 @@
 -- `refill::climb` meets its contract. The loop's invariant: the value has gone as many steps along the chain as the position went up. Assumes nothing.
 use mathlib.Core.Path.{◌∙◌}
-use Prim.Native.Nat.{◌-◌}
 use native.Mathlib.Omega.{arith}
 use Rattle.refill.proofs.Laws.{climbing_none, climbing_next, climbed}
 use Rattle.refill.proofs.climb.Goals as goal
 
 pub loop-at-init : goal.loop-at-init
-loop-at-init c = (omega arith, omega arith, climbing_none _ _ _ c.requires.1.0)
+loop-at-init c = (omega arith, omega arith, climbing_none _ _ _ c.requires.value_len.0)
 
 pub apply-requires : goal.apply-requires
 apply-requires c =
-    (c.requires.0, c.loop-at.invariant.2.sized ∙ c.loop-at.invariant.2.wide)
+    record { t = c.requires.t; value_len = c.loop-at.invariant.2.sized ∙ c.loop-at.invariant.2.wide }
 
 pub loop-at-smaller : goal.loop-at-smaller
 loop-at-smaller c = omega arith

@@ -18,22 +18,25 @@ bounds-positions-i c = omega arith
 
 pub climb-at-requires : goal.climb-at-requires
 climb-at-requires c =
-    (c.requires.known, (c.loop-i.invariant.walks.sized ∙ c.requires.seeded, fill_up _ _ _ _ c.requires _ _ _ _ _ c.loop-i.invariant (omega (arith, c.loop-i-test.true))))
+    record {
+      t = c.requires.known;
+      value_len = (c.loop-i.invariant.walks.sized ∙ c.requires.seeded, fill_up _ _ _ _ c.requires _ _ _ _ _ c.loop-i.invariant (omega (arith, c.loop-i-test.true)));
+    }
 
 pub overflow_mul-i : goal.overflow_mul-i
 overflow_mul-i c =
-    omega (arith, fill_slot _ _ _ _ c.requires _ _ _ _ _ c.loop-i.invariant (omega (arith, c.loop-test.true)))
+    omega (arith, fill_slot _ _ _ _ c.requires _ _ _ _ _ c.loop-i.invariant (omega (arith, c.loop-i-test.true)))
 
 pub put-requires : goal.put-requires
 put-requires c =
-    fill_room _ _ _ _ c.requires _ _ _ _ _ c.loop-i.invariant (omega (arith, c.loop-test.true)) _ c.climb.ensures.1
+    fill_room _ _ _ _ c.requires _ _ _ _ _ c.loop-i.invariant (omega (arith, c.loop-i-test.true)) _ c.climb-at.ensures.1
 
 pub loop-i-smaller : goal.loop-i-smaller
 loop-i-smaller c = omega arith
 
 pub loop-i-preserved : goal.loop-i-preserved
 loop-i-preserved c =
-    rw c.climb.ensures.0 (filling_next _ _ _ _ c.requires _ _ _ _ _ c.loop-i.invariant (omega (arith, c.loop-test.true)) _ c.climb.ensures.1 _ _ c.put.ensures)
+    rw c.climb-at.ensures.0 (filling_next _ _ _ _ c.requires _ _ _ _ _ c.loop-i.invariant (omega (arith, c.loop-i-test.true)) _ c.climb-at.ensures.1 _ _ c.put.ensures)
 
 pub shape_of-value : goal.shape_of-value
 shape_of-value c = c.loop-i.invariant.walks.sized

@@ -10,13 +10,13 @@ use Rattle.refill.proofs.refill.Goals as goal
 use Rattle.refill.proofs.refill.Goals.{After-copy}
 
 -- the front of the buffer, once the seed is copied to it
-wide : (c : After-copy) → c.width-w.result ≤ length c.copy.new.1.0
+wide : (c : After-copy) → c.width-w.result ≤ length c.copy.new.to
 wide c =
-    omega (arith, c.copy.auto.1.0, c.width-w.ensures, width_small c.args.chain)
+    omega (arith, c.copy.auto.to, c.width-w.ensures, width_small c.args.chain)
 
 seeded : (c : After-copy)
     →
-    take c.width-w.result c.copy.new.1.0 ≡ c.args.seed.now
+    take c.width-w.result c.copy.new.to ≡ c.args.seed.now
 seeded c =
     let c = c in
     over_taken _ _ _ _ (c.requires.seeded ∙ sym c.width-w.ensures) c.copy.ensures
@@ -29,7 +29,7 @@ pub slice_bounds-value-end : goal.slice_bounds-value-end
 slice_bounds-value-end c = wide (goal.at.slice_bounds-value-end c).After-copy
 
 pub slice_bounds-fill-end : goal.slice_bounds-fill-end
-slice_bounds-fill-end c = sym (length-take-le c.width-w.result c.copy.new.1.0 (wide (goal.at.slice_bounds-fill-end c).After-copy))
+slice_bounds-fill-end c = sym (length-take-le c.width-w.result c.copy.new.to (wide (goal.at.slice_bounds-fill-end c).After-copy))
 
 pub fill-requires : goal.fill-requires
 fill-requires c =

@@ -11,14 +11,15 @@ put_out-requires c =
 
 pub returns-then-r-whole-2 : goal.returns-then-r-whole-2
 returns-then-r-whole-2 c =
-    out_moves c.requires (c.if-r-whole-2.true ∙ c.power-whole.ensures.is) c.put_out_lem.ensures
+    out_moves c.requires (c.if-r-whole-2.true ∙ c.power-whole.ensures.is) c.put_out.ensures
 
 pub rounds_left-left-requires : goal.rounds_left-left-requires
 rounds_left-left-requires c = (c.requires.small, omega (arith, c.requires.before))
 
 pub children-requires : goal.children-requires
 children-requires c =
-    late_asks c.requires c.power-whole.ensures (omega (arith, c.if-r-whole.false, c.if-r-whole-2.false)) c.rounds_left-left.ensures
+    let a = late_asks c.requires c.power-whole.ensures (omega (arith, c.if-r-whole.false, c.if-r-whole-2.false)) c.rounds_left-left.ensures in
+    record { advancing = a.0; round_nonzero = a.1 }
 
 pub returns : goal.returns
 returns c =

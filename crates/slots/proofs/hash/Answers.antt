@@ -13,19 +13,20 @@ use Rattle.slots.proofs.hash.Goals.{After-width-w, After-open-to}
 
 -- the contract's width is the local one
 asked : (c : After-width-w) → let a = c.args in Hashing c.width-w.result a.k a.h a.n a.at a.new.now
-asked c = rw c.width-w.ensures c.requires.1
+asked c = rw c.width-w.ensures c.requires.hashing
 
 -- the part that f is applied to
-lent : (c : After-open-to) → c.open-to.result + c.width-w.result ≤ length c.open-to.new.1.1.1.1.0
+lent : (c : After-open-to) → c.open-to.result + c.width-w.result ≤ length c.open-to.new.new
 lent c =
-    hash_lent (asked c) c.loop-applied.invariant c.loop-applied-test.true c.open-to.ensures c.open-to.auto.1.1.1.1.0
+    let a : Hashing c.width-w.result c.args.k c.args.h c.args.n c.args.at c.args.new.now = rw c.width-w.ensures c.requires.hashing in
+    hash_lent a c.loop-applied.invariant c.loop-applied-test.true c.open-to.ensures c.open-to.auto.new
 
 pub loop-applied-init : goal.loop-applied-init
 loop-applied-init c = hash_none (asked (goal.at.loop-applied-init c).After-width-w)
 
 pub overflow_add-h : goal.overflow_add-h
 overflow_add-h c =
-    omega (arith, c.requires.1.more, pow_mono {i = c.args.k} {j = 20} c.requires.1.small)
+    omega (arith, c.requires.hashing.more, pow_mono {i = c.args.k} {j = 20} c.requires.hashing.small)
 
 pub open-to-requires : goal.open-to-requires
 open-to-requires c =
@@ -33,7 +34,7 @@ open-to-requires c =
 
 pub overflow_add-end : goal.overflow_add-end
 overflow_add-end c =
-    omega (arith, lent (goal.at.overflow_add-end c).After-open-to, c.open-to.auto.1.1.1.1.0, c.loop-applied.invariant.sized, c.well_formed)
+    omega (arith, lent (goal.at.overflow_add-end c).After-open-to, c.open-to.auto.new, c.loop-applied.invariant.sized, c.well_formed)
 
 pub slice_bounds-apply-end : goal.slice_bounds-apply-end
 slice_bounds-apply-end c = lent (goal.at.slice_bounds-apply-end c).After-open-to
@@ -41,21 +42,21 @@ slice_bounds-apply-end c = lent (goal.at.slice_bounds-apply-end c).After-open-to
 pub apply-requires : goal.apply-requires
 apply-requires c =
     let w = c.width-w.result in
-    let e = part_length c.open-to.result (c.open-to.result + w) c.open-to.new.1.1.1.1.0 (omega arith) (lent (goal.at.apply-requires c).After-open-to) in
-    (c.requires.0, e ∙ omega (arith, c.width-w.ensures))
+    let e = part_length c.open-to.result (c.open-to.result + w) c.open-to.new.new (omega arith) (lent (goal.at.apply-requires c).After-open-to) in
+    record { t = c.requires.t; value_len = e ∙ omega (arith, c.width-w.ensures) }
 
 pub overflow_add-applied : goal.overflow_add-applied
 overflow_add-applied c =
-    omega (arith, c.requires.1.more, pow_mono {i = c.args.k} {j = 20} c.requires.1.small)
+    omega (arith, c.requires.hashing.more, pow_mono {i = c.args.k} {j = 20} c.requires.hashing.small)
 
 pub loop-applied-preserved : goal.loop-applied-preserved
 loop-applied-preserved c =
     let to = c.open-to.result in
     let w = c.width-w.result in
-    let opened = c.open-to.new.1.1.1.1.0 in
+    let opened = c.open-to.new.new in
     let u : to + w - to ≡ w = omega arith in
-    hash_next (asked (goal.at.loop-applied-preserved c).After-width-w) c.loop-applied.invariant c.loop-applied-test.true c.open-to.ensures c.open-to.auto.1.1.1.1.0
-    (c.apply.auto.1.0 ∙ part_length to (to + w) opened (omega arith) (lent (goal.at.loop-applied-preserved c).After-open-to) ∙ u) c.apply.ensures
+    hash_next (asked (goal.at.loop-applied-preserved c).After-width-w) c.loop-applied.invariant c.loop-applied-test.true c.open-to.ensures c.open-to.auto.new
+    (c.apply.auto.value ∙ part_length to (to + w) opened (omega arith) (lent (goal.at.loop-applied-preserved c).After-open-to) ∙ u) c.apply.ensures
 
 pub shape_of-new : goal.shape_of-new
 shape_of-new c = c.loop-applied.invariant.sized

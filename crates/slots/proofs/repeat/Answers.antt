@@ -1,7 +1,6 @@
 -- `slots::repeat` meets its contract. The loop's invariant: the first i bytes are those that stand w further, and the others, which it still reads, are
 -- as they were. Assumes nothing.
 use mathlib.Core.Path.{◌≡◌}
-use Prim.Native.Nat.{◌-◌}
 use native.Mathlib.Omega.{arith}
 use lib.ListN.{length, take, drop}
 use Rattle.lists.specs.Writing.{writing_none, writing_front}

@@ -5,4 +5,4 @@ use Rattle.card.proofs.layout.head_bytes.Goals as goal
 
 pub returns : goal.returns
 unfolding head_bytes
-returns c = rw c.word_Bytes.ensures refl
+returns c = rw c.word_bytes-r.ensures refl

@@ -19,9 +19,9 @@ held_count-held-requires c =
 
 pub overflow_mul-result : goal.overflow_mul-result
 overflow_mul-result c =
-    omega (arith, held_small c.args.head _ c.width-w.ensures _ c.held_count_lem.ensures.1)
+    omega (arith, held_small c.args.head _ c.width-w.ensures _ c.held_count-held.ensures.1)
 
 pub returns : goal.returns
 returns c =
-    let e = held_counted c.args.head _ c.width-w.ensures c.requires.0 c.requires.3 _ c.held_count_lem.ensures.0 in
+    let e = held_counted c.args.head _ c.width-w.ensures c.requires.0 c.requires.3 _ c.held_count-held.ensures.0 in
     (e, omega (arith, e, held_fits c.args.head _ c.width-w.ensures c.requires.0 c.requires.3))

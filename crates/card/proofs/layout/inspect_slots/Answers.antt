@@ -21,8 +21,8 @@ held_size-from-requires c =
 
 pub returns-then-zeros : goal.returns-then-zeros
 returns-then-zeros c =
-    free_zero c.args.card.now c.args.head _ c.slots_size-end.ensures c.if-card-end.false c.if-r-eq0.false _ c.power.ensures c.if-power-r.false _ c.held_size_lem.ensures _ c.zeros.ensures c.if-zeros.true
+    free_zero c.args.card.now c.args.head _ c.slots_size-end.ensures c.if-card-end.false c.if-r-eq0.false _ c.power.ensures c.if-power-r.false _ c.held_size-from.ensures _ c.zeros.ensures c.if-zeros.true
 
 pub returns : goal.returns
 returns c =
-    free_used c.args.card.now c.args.head _ c.slots_size-end.ensures c.if-card-end.false c.if-r-eq0.false _ c.power.ensures c.if-power-r.false _ c.held_size_lem.ensures _ c.zeros.ensures c.if-zeros.false
+    free_used c.args.card.now c.args.head _ c.slots_size-end.ensures c.if-card-end.false c.if-r-eq0.false _ c.power.ensures c.if-power-r.false _ c.held_size-from.ensures _ c.zeros.ensures c.if-zeros.false

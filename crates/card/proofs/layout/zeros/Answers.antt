@@ -1,7 +1,6 @@
 -- `card::layout::zeros` meets its contract. The loop's invariant: all bytes are zero just where what was seen so far is, and the rest are.
 -- Assumes nothing.
 use mathlib.Core.Path.{refl}
-use Prim.Native.Nat.{◌-◌}
 use native.Mathlib.Omega.{arith}
 use Rattle.card.proofs.ReadLaws.{looking_next, looked}
 use Rattle.card.proofs.layout.zeros.Goals as goal

@@ -10,8 +10,8 @@ returns-then-post-lt-SIZE c = record_short _ c.if-post-lt-SIZE.true
 pub inspect_paid-requires : goal.inspect_paid-requires
 inspect_paid-requires c =
     let if1 = c.if-post-lt-SIZE in
-    let check-numbers = c.check_numbers-checked in
-    (if1.false, numbers_small _ _ (sym check-numbers.ensures ∙ c.checked-in-Post-1.given.1))
+    let checked = c.check_numbers-checked in
+    (if1.false, numbers_small _ _ (sym checked.ensures ∙ c.in-Post.is))
 
 pub returns-in-Refused : goal.returns-in-Refused
 returns-in-Refused c =
@@ -19,9 +19,9 @@ returns-in-Refused c =
     let marked = c.marked in
     let if2 = c.if-marked in
     let read_head = c.read_head in
-    let check-numbers = c.check_numbers-checked in
-    head_refused _ if1.false _ marked.ensures if2.true _ read_head.ensures _ check-numbers.ensures _
-    c.checked-1.given.1
+    let checked = c.check_numbers-checked in
+    head_refused _ if1.false _ marked.ensures if2.true _ read_head.ensures _ checked.ensures _
+    c.in-Refused.is
 
 pub returns-in-Post : goal.returns-in-Post
 returns-in-Post c =
@@ -29,10 +29,9 @@ returns-in-Post c =
     let marked = c.marked in
     let if2 = c.if-marked in
     let read_head = c.read_head in
-    let check-numbers = c.check_numbers-checked in
-    let checked2 = c.checked-in-Post-1 in
+    let checked = c.check_numbers-checked in
     c.inspect_paid.ensures ∙ head_passed _ if1.false _ marked.ensures if2.true _ read_head.ensures _
-    check-numbers.ensures _ checked2.given.1
+    checked.ensures _ c.in-Post.is
 
 pub returns : goal.returns
 returns c =

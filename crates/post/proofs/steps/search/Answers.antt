@@ -1,18 +1,17 @@
 -- `post::steps::search` meets its contract. The loop's invariant: the least of those looked at is found,
 -- and where one is found the search is at its end. Assumes nothing.
-use Prim.Native.Nat.{◌-◌}
 use mathlib.Core.Path.{sym, ◌∙◌}
 use native.Mathlib.Omega.{arith}
 use Rattle.post.proofs.StepLaws.{searching_none, search_fits, search_on, searched}
 use Rattle.post.proofs.steps.search.Goals as goal
 
 pub loop-g-init : goal.loop-g-init
-loop-g-init c = searching_none _ _ _ _ c.requires.1
+loop-g-init c = searching_none _ _ _ _ c.requires.value_len
 
 pub walk-requires : goal.walk-requires
 walk-requires c =
     let turn = c.loop-g in
-    (c.requires.0, turn.invariant.walks.sized ∙ turn.invariant.walks.wide)
+    record { t = c.requires.t; value_len = turn.invariant.walks.sized ∙ turn.invariant.walks.wide }
 
 pub overflow_add-g : goal.overflow_add-g
 overflow_add-g c = omega (arith, c.loop-g.invariant.upto)
@@ -23,7 +22,7 @@ loop-g-smaller-then-same c = omega (arith, c.loop-g.invariant.upto)
 pub loop-g-preserved-then-same : goal.loop-g-preserved-then-same
 loop-g-preserved-then-same c =
     let turn = c.loop-g in
-    let test = c.loop-test in
+    let test = c.loop-g-test in
     let walk = c.walk in
     search_fits _ _ _ _ _ _ _ _ turn.invariant test.true _ walk.ensures
     (sym c.same.ensures ∙ c.if-same.true)
@@ -34,7 +33,7 @@ loop-g-smaller c = omega (arith, c.loop-g.invariant.upto)
 pub loop-g-preserved : goal.loop-g-preserved
 loop-g-preserved c =
     let turn = c.loop-g in
-    let test = c.loop-test in
+    let test = c.loop-g-test in
     let walk = c.walk in
     search_on _ _ _ _ _ _ _ _ turn.invariant test.true _ walk.ensures
     (sym c.same.ensures ∙ c.if-same.false)
