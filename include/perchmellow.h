@@ -1,7 +1,7 @@
 /*
  * Perchmellow: a rider's card and a charging post, proved.
  *
- *     tools/staticlib                                 builds target/staticlib/libperchmellow.a for this machine (x86-64 or aarch64 Linux)
+ *     tools/staticlib                                 builds target/staticlib/libperchmellow.a for x86-64 Linux
  *     cc -Iinclude app.c target/staticlib/libperchmellow.a
  *
  * A card of 2^k ticks holds values of a chain: x_0 is the seed, x_(i+1) is the function of x_i, and the anchor is x_(2^k).
