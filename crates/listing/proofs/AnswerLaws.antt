@@ -1,13 +1,9 @@
 -- A round's line by its answer: a quiet round's ends in "-", and a tick's in its position. Assumes nothing.
 use mathlib.Core.Path.{◌≡◌, refl, ◌∙◌}
 use mathlib.Core.List.{List, [], ◌∷◌, ◌++◌}
-use mathlib.Core.Logic.{inl, inr}
 use Prim.Native.Nat.{ℕ, ◌+◌, ◌≤◌}
 use native.Mathlib.Omega.{arith}
-use denote.Enum.Declared.{tag_of}
-use types.Run.{OneOf}
 use lib.ListN.{length}
-use Rattle.card.specs.contracts.RoundAnswer.{the_type}
 use Rattle.card.specs.Promises.{round_answer_says, tick_or_quiet}
 use Rattle.card.specs.declared.RoundAnswer.{RoundAnswer}
 use Rattle.card.specs.declared.RoundAnswer.TheVariants.{Quiet, Tick, Refused}
@@ -17,18 +13,14 @@ use Rattle.listing.specs.Text.{bytes}
 use Rattle.listing.specs.Listing.{line_feed, field, put_out_field, held_fields, line_of}
 use Rattle.listing.specs.Steps.{Lined, quiet_line, quiet_hashes, answer_line, answer_hashes}
 
-abbrev tag : RoundAnswer → ℕ
-tag a = tag_of the_type a
-
 module _ (r : ℕ) (held : List ℕ) (at : ℕ) (text : List ℕ) where
   -- ---- a quiet round
 
   -- of another answer nothing is written there
-  pub quiet_none : (a : RoundAnswer) → OneOf (1 ∷ 2 ∷ []) (tag_of the_type a)
+  pub quiet_none : (a : RoundAnswer) → ((h : ℕ) → a ≡ Quiet h → ⊥)
       → Lined (quiet_line r held a) (quiet_hashes a) at text (record { end = at; hashes = 0 }) text
   unfolding quiet_line quiet_hashes
-  quiet_none (Quiet hashes) (inl e) = absurd (omega arith)
-  quiet_none (Quiet hashes) (inr e) = absurd (omega arith)
+  quiet_none (Quiet hashes) o = absurd (o hashes refl)
   quiet_none (Tick position hashes) o = record { wrote = written_none text at; counts = refl }
   quiet_none (Refused why) o = record { wrote = written_none text at; counts = refl }
 
@@ -56,14 +48,13 @@ module _ (r : ℕ) (held : List ℕ) (at : ℕ) (text : List ℕ) where
   -- ---- a tick
 
   -- any other answer is left to the quiet line
-  same_line : (a : RoundAnswer) → OneOf (0 ∷ 2 ∷ []) (tag_of the_type a) → (quiet_line r held a ≡ answer_line r held a) × (quiet_hashes a ≡ answer_hashes a)
+  same_line : (a : RoundAnswer) → ((p h : ℕ) → a ≡ Tick p h → ⊥) → (quiet_line r held a ≡ answer_line r held a) × (quiet_hashes a ≡ answer_hashes a)
   unfolding quiet_line answer_line quiet_hashes answer_hashes
   same_line (Quiet hashes) o = (refl, refl)
-  same_line (Tick position hashes) (inl e) = absurd (omega arith)
-  same_line (Tick position hashes) (inr e) = absurd (omega arith)
+  same_line (Tick position hashes) o = absurd (o position hashes refl)
   same_line (Refused why) o = (refl, refl)
 
-  module _ (a : RoundAnswer) (o : OneOf (0 ∷ 2 ∷ []) (tag_of the_type a)) where
+  module _ (a : RoundAnswer) (o : (p h : ℕ) → a ≡ Tick p h → ⊥) where
     pub other_fits : at + length (answer_line r held a) ≤ length text → at + length (quiet_line r held a) ≤ length text
     other_fits room = rw (same_line a o).0 room
 

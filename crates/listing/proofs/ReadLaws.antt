@@ -64,6 +64,9 @@ module _ (input : List ℕ) (i : ℕ) (l : i < length input) where
   pub ended_later : (get_or input i 0 ≡ line_feed → ⊥) → ended (drop i input) ≡ ended (drop (i + 1) input)
   ended_later n = rw (first, ne_eqb (get_or input i 0) line_feed n, add-one i) refl
 
+-- what each byte that the search passes says
+pub ruleset passing = (ended_here, ended_later)
+
 -- nowhere
 pub ended_never : (input : List ℕ) (i : ℕ) → length input ≤ i → ended (drop i input) ≡ false
 unfolding ended

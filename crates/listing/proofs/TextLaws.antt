@@ -42,11 +42,11 @@ pub name_0 : (s : ℕ) → s ≡ 0 → bytes "rushing" ≡ name_of s
 unfolding name_of
 name_0 s e = rw e refl
 
-pub name_1 : (s : ℕ) → s ≡ 1 → bytes "speed_1" ≡ name_of s
+pub name_1 : (s : ℕ) → s ≡ 1 → bytes "speed-1" ≡ name_of s
 unfolding name_of
 name_1 s e = rw e refl
 
-pub name_2 : (s : ℕ) → s ≡ 2 → bytes "speed_2" ≡ name_of s
+pub name_2 : (s : ℕ) → s ≡ 2 → bytes "speed-2" ≡ name_of s
 unfolding name_of
 name_2 s e = rw e refl
 

@@ -90,7 +90,7 @@ unreadable =
     ∷ "optimal 2\0"
     ∷ " optimal 2"
     ∷ "Optimal 2"
-    ∷ "speed_3 1"
+    ∷ "speed-3 1"
     ∷ "\noptimal 2"
     ∷ []
 

@@ -20,8 +20,8 @@ comma = 44
 
 unfoldable pub name_of : ℕ → List ℕ
 name_of zero = bytes "rushing"
-name_of (suc zero) = bytes "speed_1"
-name_of (suc (suc zero)) = bytes "speed_2"
+name_of (suc zero) = bytes "speed-1"
+name_of (suc (suc zero)) = bytes "speed-2"
 name_of (suc (suc (suc s))) = bytes "optimal"
 
 -- the line for schedule s and k: the name, one space, k in decimal

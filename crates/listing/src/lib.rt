@@ -109,6 +109,7 @@ fn asks(schedule: u32, k: u32, input: &[u8]) -> bool
 
 // Whether these bytes of an input decide: LF is among them, or there are eleven. Then `listing` writes the same for them and for them with
 // anything behind (`rest_changes_nothing`, specs/Lines.antt), so a reader stops here.
+#[tactic(auto, using(crate::proofs::ReadLaws::passing))]
 pub fn decides(input: &[u8]) -> bool
     ensures { result ≡ is_decided input.now }
 {

@@ -7,6 +7,7 @@ ghost use Rattle.std.specs.Prelude.{◌≡◌, length};
 use oneway::Chain;
 use post::{Answer, OfferAnswer, SettleAnswer};
 use printing::{print, print_hex, print_number};
+use std::io;
 
 const K: u32 = 8;
 
@@ -25,61 +26,61 @@ fn element(n: u32) -> [u8; 16]
     value
 }
 
-fn refused(refusal: refusals::Refusal) {
-    print_number(refusals::number(refusal));
-    print(b"\n");
+fn refused(rt: &impl Print, refusal: refusals::Refusal) -> io::Result<()> {
+    print_number(rt, refusals::number(refusal))?;
+    print(rt, b"\n")
 }
 
 // One offer of bytes with a gap limit, and what is said.
-fn say(post: &mut [u8], value: &[u8], gap: u32) {
+fn say(rt: &impl Print, post: &mut [u8], value: &[u8], gap: u32) -> io::Result<()> {
     let answer = post::offer(post, value, gap);
-    print(b", G = ");
-    print_number(gap);
-    print(b": ");
+    print(rt, b", G = ")?;
+    print_number(rt, gap)?;
+    print(rt, b": ")?;
     match answer {
-        OfferAnswer::Refused(refusal) => refused(refusal),
+        OfferAnswer::Refused(refusal) => refused(rt, refusal),
         OfferAnswer::Credited(ticks) => {
-            print(b"0 ");
-            print_number(ticks);
-            print(b"\n");
+            print(rt, b"0 ")?;
+            print_number(rt, ticks)?;
+            print(rt, b"\n")
         }
     }
 }
 
 // The same for x_n.
-fn tick(post: &mut [u8], n: u32, gap: u32) {
+fn tick(rt: &impl Print, post: &mut [u8], n: u32, gap: u32) -> io::Result<()> {
     let value = element(n);
-    print(b"x_");
-    print_number(n);
-    say(post, &value, gap);
+    print(rt, b"x_")?;
+    print_number(rt, n)?;
+    say(rt, post, &value, gap)
 }
 
-fn enrol(post: &mut [u8]) {
+fn enrol(rt: &impl Print, post: &mut [u8]) -> io::Result<()> {
     let anchor = element(256);
-    print(b"anchor ");
-    print_hex(&anchor);
+    print(rt, b"anchor ")?;
+    print_hex(rt, &anchor)?;
     let answer = post::enrol(0, K, &anchor, post);
-    print(b"\nenrol: ");
+    print(rt, b"\nenrol: ")?;
     match answer {
-        Answer::Refused(refusal) => refused(refusal),
-        Answer::Done => print(b"0\n"),
+        Answer::Refused(refusal) => refused(rt, refusal),
+        Answer::Done => print(rt, b"0\n"),
     }
 }
 
 // Whether x_n stands for so many ticks paid.
-fn settle(n: u32, paid: u32) {
+fn settle(rt: &impl Print, n: u32, paid: u32) -> io::Result<()> {
     let anchor = element(256);
     let last = element(n);
     let answer = post::settle(0, K, &anchor, &last, paid);
-    print(b"settle x_");
-    print_number(n);
-    print(b" for ");
-    print_number(paid);
-    print(b": ");
+    print(rt, b"settle x_")?;
+    print_number(rt, n)?;
+    print(rt, b" for ")?;
+    print_number(rt, paid)?;
+    print(rt, b": ")?;
     match answer {
-        SettleAnswer::Refused(refusal) => refused(refusal),
-        SettleAnswer::Yes => print(b"0 1\n"),
-        SettleAnswer::No => print(b"0 0\n"),
+        SettleAnswer::Refused(refusal) => refused(rt, refusal),
+        SettleAnswer::Yes => print(rt, b"0 1\n"),
+        SettleAnswer::No => print(rt, b"0 0\n"),
     }
 }
 
@@ -94,7 +95,7 @@ fn credited_one(post: &mut [u8], n: u32) -> bool {
 }
 
 // Offers the ticks below x_n in order, down to x_0, and says how many are credited exactly 1.
-fn rest(post: &mut [u8], n: u32) {
+fn rest(rt: &impl Print, post: &mut [u8], n: u32) -> io::Result<()> {
     let mut left = n;
     let mut ones: u32 = 0;
     while 0 < left {
@@ -103,44 +104,44 @@ fn rest(post: &mut [u8], n: u32) {
             ones += 1;
         }
     }
-    print(b"the ticks below x_");
-    print_number(n);
-    print(b", G = 1: ");
-    print_number(ones);
-    print(b" credited 1\n");
+    print(rt, b"the ticks below x_")?;
+    print_number(rt, n)?;
+    print(rt, b", G = 1: ")?;
+    print_number(rt, ones)?;
+    print(rt, b" credited 1\n")
 }
 
-fn main() {
+fn main(rt: HostRuntime) -> io::Result<()> {
     let mut post = [0u8; 40];
-    enrol(&mut post);
-    print(b"record ");
-    print_hex(&post);
-    print(b"\n");
-    tick(&mut post, 255, 0);
-    tick(&mut post, 255, 65);
-    tick(&mut post, 255, 1);
-    tick(&mut post, 254, 64);
-    print(b"one tick missed\n");
-    tick(&mut post, 252, 1);
-    tick(&mut post, 252, 2);
-    print(b"63 ticks missed\n");
-    tick(&mut post, 188, 64);
-    print(b"64 ticks missed\n");
-    tick(&mut post, 123, 64);
-    print(b"the value held, again\n");
-    tick(&mut post, 188, 64);
-    print(b"15 bytes");
-    say(&mut post, b"fifteen bytes..", 64);
-    print(b"17 bytes");
-    say(&mut post, b"seventeen bytes..", 64);
-    settle(188, 68);
-    settle(188, 67);
-    rest(&mut post, 188);
-    print(b"record ");
-    print_hex(&post);
-    print(b"\n");
-    tick(&mut post, 0, 1);
-    tick(&mut post, 0, 65);
-    settle(0, 256);
-    settle(0, 257);
+    enrol(&rt, &mut post)?;
+    print(&rt, b"record ")?;
+    print_hex(&rt, &post)?;
+    print(&rt, b"\n")?;
+    tick(&rt, &mut post, 255, 0)?;
+    tick(&rt, &mut post, 255, 65)?;
+    tick(&rt, &mut post, 255, 1)?;
+    tick(&rt, &mut post, 254, 64)?;
+    print(&rt, b"one tick missed\n")?;
+    tick(&rt, &mut post, 252, 1)?;
+    tick(&rt, &mut post, 252, 2)?;
+    print(&rt, b"63 ticks missed\n")?;
+    tick(&rt, &mut post, 188, 64)?;
+    print(&rt, b"64 ticks missed\n")?;
+    tick(&rt, &mut post, 123, 64)?;
+    print(&rt, b"the value held, again\n")?;
+    tick(&rt, &mut post, 188, 64)?;
+    print(&rt, b"15 bytes")?;
+    say(&rt, &mut post, b"fifteen bytes..", 64)?;
+    print(&rt, b"17 bytes")?;
+    say(&rt, &mut post, b"seventeen bytes..", 64)?;
+    settle(&rt, 188, 68)?;
+    settle(&rt, 188, 67)?;
+    rest(&rt, &mut post, 188)?;
+    print(&rt, b"record ")?;
+    print_hex(&rt, &post)?;
+    print(&rt, b"\n")?;
+    tick(&rt, &mut post, 0, 1)?;
+    tick(&rt, &mut post, 0, 65)?;
+    settle(&rt, 0, 256)?;
+    settle(&rt, 0, 257)
 }

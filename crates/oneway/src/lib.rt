@@ -113,8 +113,8 @@ fn put(value: [u8; 16], bytes: &mut [u8])
 
 // One step of the chain, in place: the value that comes after the one lent. The chain's function has to be a known one.
 pub fn apply(chain: Chain, value: &mut [u8])
-    requires t { T (is_known chain.function) }
-    requires value_len { length value.old ≡ width_of chain }
+    requires known_function { T (is_known chain.function) }
+    requires whole_value { length value.old ≡ width_of chain }
     ensures { value.new ≡ step chain value.old }
 {
     let v = taken(value);

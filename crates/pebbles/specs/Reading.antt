@@ -5,4 +5,4 @@ use Rattle.pebbles.specs.declared.Reading.TheVariants.{Line, Failed}
 
 abbrev pub Within : Reading → List ℕ → Type 0
 Within (Line count) input = count ≤ length input
-Within Failed input = Unit {0}
+Within (Failed e) input = Unit {0}

@@ -122,6 +122,7 @@ pub fn enrol(function: u32, k: u32, anchor: &[u8], post: &mut [u8]) -> Answer
 // ---- offer
 
 // Whether a gap limit is outside 1 to 64.
+#[tactic(auto, using(crate::proofs::OfferLaws::gap_none, crate::proofs::OfferLaws::gap_some))]
 fn gap_strange(gap: u32) -> bool
     ensures { result ≡ gap_strange gap }
 {

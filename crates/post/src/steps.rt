@@ -12,8 +12,8 @@ use records::{same, walk};
 
 // Whether n steps lead from the value to another one. It steps the value in place.
 pub fn leads(chain: Chain, n: u32, to: &[u8], value: &mut [u8]) -> bool
-    requires t { T (known chain.function) }
-    requires value_len { length value.old ≡ width chain }
+    requires known_function { T (known chain.function) }
+    requires whole_value { length value.old ≡ width chain }
     ensures { result ≡ same_as (element (step chain) value.old n) to.now }
 {
     walk(chain, n, value);
@@ -23,8 +23,8 @@ pub fn leads(chain: Chain, n: u32, to: &[u8], value: &mut [u8]) -> bool
 // The fewest steps from 1 to `limit` that lead from the value to the one held. It steps the value in place and looks after each step;
 // the first that fits ends the search, since a chain may come by the same value again.
 pub fn search(chain: Chain, limit: u32, held: &[u8], value: &mut [u8]) -> Found
-    requires t { T (known chain.function) }
-    requires value_len { length value.old ≡ width chain }
+    requires known_function { T (known chain.function) }
+    requires whole_value { length value.old ≡ width chain }
     ensures { result ≡ fewest (step chain) limit held.now value.old }
 {
     let mut found = Found::Nothing;

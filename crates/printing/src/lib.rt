@@ -1,17 +1,18 @@
-// What the programs print with: text, numbers, bytes in hexadecimal and the schedules' names, to standard output.
+// What the programs print with: text, numbers, bytes in hexadecimal and the schedules' names, to standard output. Each answers the
+// error of a write that fails.
 #![tactic(auto)]
 
 ghost use Rattle.std.specs.Prelude.{◌≡◌, ◌<◌};
 ghost use Rattle.printing.specs.Hex.{digit_of, digits_of};
 
-use libc::STDOUT_FILENO;
+use std::io;
 
-pub fn print(text: &[u8]) {
-    io::write_all(STDOUT_FILENO, text);
+pub fn print(rt: &impl Print, text: &[u8]) -> io::Result<()> {
+    rt.write_all(text)
 }
 
-pub fn print_number(n: u32) {
-    io::print_decimal(STDOUT_FILENO, n as u64);
+pub fn print_number(rt: &impl Print, n: u32) -> io::Result<()> {
+    rt.print(n)
 }
 
 // One digit: 87 is the letter a less ten.
@@ -29,21 +30,22 @@ pub fn digits(byte: u8) -> [u8; 2]
     [digit(byte / 16), digit(byte % 16)]
 }
 
-pub fn print_hex(bytes: &[u8]) {
+pub fn print_hex(rt: &impl Print, bytes: &[u8]) -> io::Result<()> {
     let mut i: usize = 0;
     while i < bytes.len() {
         let two = digits(bytes[i]);
-        print(&two);
+        print(rt, &two)?;
         i += 1;
     }
+    Ok(())
 }
 
 // The name of schedule 0, 1, 2 or 3.
-pub fn print_schedule(schedule: u32) {
+pub fn print_schedule(rt: &impl Print, schedule: u32) -> io::Result<()> {
     match schedule {
-        0 => print(b"rushing"),
-        1 => print(b"speed-1"),
-        2 => print(b"speed-2"),
-        _ => print(b"optimal"),
+        0 => print(rt, b"rushing"),
+        1 => print(rt, b"speed-1"),
+        2 => print(rt, b"speed-2"),
+        _ => print(rt, b"optimal"),
     }
 }

@@ -80,8 +80,8 @@ pub fn word_bytes(n: u32) -> [u8; 4]
 
 // n steps of the chain, in place.
 pub fn walk(chain: Chain, n: u32, value: &mut [u8])
-    requires t { T (known chain.function) }
-    requires value_len { length value.old ≡ width chain }
+    requires known_function { T (known chain.function) }
+    requires whole_value { length value.old ≡ width chain }
     ensures { value.new ≡ element (step chain) value.old n }
 {
     let mut i: u32 = 0;

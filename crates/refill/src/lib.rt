@@ -13,8 +13,8 @@ use oneway::Chain;
 // applies the chain's function, and the position goes up by one there and nowhere else: so it is also the count of the hashes done
 // since the seed.
 fn climb(chain: Chain, from: u32, to: u32, value: &mut [u8]) -> u32
-    requires t { T (known chain.function) }
-    requires value_len { (length value.old ≡ width chain) × (from ≤ to) }
+    requires known_function { T (known chain.function) }
+    requires whole_and_upwards { (length value.old ≡ width chain) × (from ≤ to) }
     ensures { (result ≡ to) × (value.new ≡ element (step chain) value.old (to - from)) }
 {
     let mut at = from;

@@ -54,7 +54,7 @@ fn open(w: usize, k: u32, h: u32, at: usize, new: &mut [u8]) -> usize
 // n hashes of P_k, which has done h, on the values from `at` on; they come to stand from the front. Answers how often f was
 // applied: this is the one place where a round applies it.
 fn hash(chain: Chain, k: u32, h: u32, n: u32, at: usize, new: &mut [u8]) -> u32
-    requires t { T (known chain.function) }
+    requires known_function { T (known chain.function) }
     requires hashing { Hashing (width_of chain) k h n at new.old }
     ensures { Hashed (width_of chain) (step chain) k h n at new.old result new.new }
 {

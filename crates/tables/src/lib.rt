@@ -1,3 +1,2 @@
 // Tables of numbers that follow a rule: definitions and laws for other crates, no code.
 #![tactic(auto)]
-

@@ -5,6 +5,7 @@
 ghost use Rattle.std.specs.Prelude.{◌<◌, ◌≤◌, length};
 
 use printing::{print, print_hex, print_number};
+use std::io;
 
 // How many examples agreed, of how many.
 #[derive(Clone, Copy)]
@@ -32,25 +33,31 @@ fn same(bytes: [u8; 16], says: &[u8; 32]) -> bool {
 }
 
 // The two lines below an example, and whether they are the same.
-fn compare(tally: Tally, came_out: [u8; 16], document: &[u8], says: &[u8; 32]) -> Tally {
-    print(b"  came out  ");
-    print_hex(&came_out);
-    print(b"\n  ");
-    print(document);
-    print(b"  ");
-    print(says);
+fn compare(
+    rt: &impl Print,
+    tally: Tally,
+    came_out: [u8; 16],
+    document: &[u8],
+    says: &[u8; 32],
+) -> io::Result<Tally> {
+    print(rt, b"  came out  ")?;
+    print_hex(rt, &came_out)?;
+    print(rt, b"\n  ")?;
+    print(rt, document)?;
+    print(rt, b"  ")?;
+    print(rt, says)?;
     if same(came_out, says) {
-        print(b"\n");
-        Tally {
+        print(rt, b"\n")?;
+        Ok(Tally {
             agreed: one_more(tally.agreed),
             run: one_more(tally.run),
-        }
+        })
     } else {
-        print(b"  DIFFERS\n");
-        Tally {
+        print(rt, b"  DIFFERS\n")?;
+        Ok(Tally {
             agreed: tally.agreed,
             run: one_more(tally.run),
-        }
+        })
     }
 }
 
@@ -115,41 +122,55 @@ fn md5_of(message: &[u8]) -> [u8; 16]
     bytes_of(md5_block::block(s, &second))
 }
 
-fn md5_example(tally: Tally, message: &[u8], says: &[u8; 32]) -> Tally
+fn md5_example(rt: &impl Print, tally: Tally, message: &[u8], says: &[u8; 32]) -> io::Result<Tally>
     requires { length message.now < 120 }
 {
-    print(b"MD5 (\"");
-    print(message);
-    print(b"\")\n");
-    compare(tally, md5_of(message), b"RFC 1321", says)
+    print(rt, b"MD5 (\"")?;
+    print(rt, message)?;
+    print(rt, b"\")\n")?;
+    compare(rt, tally, md5_of(message), b"RFC 1321", says)
 }
 
-fn aes_example(tally: Tally, key: [u8; 16], block: [u8; 16], says: &[u8; 32]) -> Tally {
-    print(b"AES-128 under ");
-    print_hex(&key);
-    print(b" of ");
-    print_hex(&block);
-    print(b"\n");
-    compare(tally, aes::encrypt(key, block), b"FIPS 197", says)
+fn aes_example(
+    rt: &impl Print,
+    tally: Tally,
+    key: [u8; 16],
+    block: [u8; 16],
+    says: &[u8; 32],
+) -> io::Result<Tally> {
+    print(rt, b"AES-128 under ")?;
+    print_hex(rt, &key)?;
+    print(rt, b" of ")?;
+    print_hex(rt, &block)?;
+    print(rt, b"\n")?;
+    compare(rt, tally, aes::encrypt(key, block), b"FIPS 197", says)
 }
 
 // RFC 1321, section A.5.
-fn rfc_1321(t0: Tally) -> Tally {
-    let t1 = md5_example(t0, b"", b"d41d8cd98f00b204e9800998ecf8427e");
-    let t2 = md5_example(t1, b"a", b"0cc175b9c0f1b6a831c399e269772661");
-    let t3 = md5_example(t2, b"abc", b"900150983cd24fb0d6963f7d28e17f72");
-    let t4 = md5_example(t3, b"message digest", b"f96b697d7cb7938d525a2f31aaf161d0");
+fn rfc_1321(rt: &impl Print, t0: Tally) -> io::Result<Tally> {
+    let t1 = md5_example(rt, t0, b"", b"d41d8cd98f00b204e9800998ecf8427e")?;
+    let t2 = md5_example(rt, t1, b"a", b"0cc175b9c0f1b6a831c399e269772661")?;
+    let t3 = md5_example(rt, t2, b"abc", b"900150983cd24fb0d6963f7d28e17f72")?;
+    let t4 = md5_example(
+        rt,
+        t3,
+        b"message digest",
+        b"f96b697d7cb7938d525a2f31aaf161d0",
+    )?;
     let t5 = md5_example(
+        rt,
         t4,
         b"abcdefghijklmnopqrstuvwxyz",
         b"c3fcd3d76192e4007dfb496cca67e13b",
-    );
+    )?;
     let t6 = md5_example(
+        rt,
         t5,
         b"ABCDEFGHIJKLMNOPQRSTUVWXYZabcdefghijklmnopqrstuvwxyz0123456789",
         b"d174ab98d277d9f5a5611c2c9f419d9f",
-    );
+    )?;
     md5_example(
+        rt,
         t6,
         b"12345678901234567890123456789012345678901234567890123456789012345678901234567890",
         b"57edf4a22be3c955ac49da2e2107b67a",
@@ -157,14 +178,16 @@ fn rfc_1321(t0: Tally) -> Tally {
 }
 
 // FIPS 197, appendices B and C.1.
-fn fips_197(t0: Tally) -> Tally {
+fn fips_197(rt: &impl Print, t0: Tally) -> io::Result<Tally> {
     let t1 = aes_example(
+        rt,
         t0,
         *b"\x2b\x7e\x15\x16\x28\xae\xd2\xa6\xab\xf7\x15\x88\x09\xcf\x4f\x3c",
         *b"\x32\x43\xf6\xa8\x88\x5a\x30\x8d\x31\x31\x98\xa2\xe0\x37\x07\x34",
         b"3925841d02dc09fbdc118597196a0b32",
-    );
+    )?;
     aes_example(
+        rt,
         t1,
         *b"\x00\x01\x02\x03\x04\x05\x06\x07\x08\x09\x0a\x0b\x0c\x0d\x0e\x0f",
         *b"\x00\x11\x22\x33\x44\x55\x66\x77\x88\x99\xaa\xbb\xcc\xdd\xee\xff",
@@ -172,11 +195,11 @@ fn fips_197(t0: Tally) -> Tally {
     )
 }
 
-fn main() {
-    let md5s = rfc_1321(Tally { agreed: 0, run: 0 });
-    let all = fips_197(md5s);
-    print_number(all.agreed);
-    print(b" of ");
-    print_number(all.run);
-    print(b" agree\n");
+fn main(rt: HostRuntime) -> io::Result<()> {
+    let md5s = rfc_1321(&rt, Tally { agreed: 0, run: 0 })?;
+    let all = fips_197(&rt, md5s)?;
+    print_number(&rt, all.agreed)?;
+    print(&rt, b" of ")?;
+    print_number(&rt, all.run)?;
+    print(&rt, b" agree\n")
 }

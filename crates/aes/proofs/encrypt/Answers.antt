@@ -3,7 +3,7 @@ use mathlib.Core.Path.{ap, ap₂, ◌∙◌}
 use mathlib.Core.List.{List}
 use Prim.Native.Nat.{ℕ}
 use native.Mathlib.Omega.{arith}
-use Rattle.aes.specs.Aes.{columns, bytes, sub_bytes, shift_rows, add_round_key, round_key, key_expansion, rounds, cipher}
+use Rattle.aes.specs.Aes.{bytes, sub_bytes, shift_rows, add_round_key, round_key, key_expansion, rounds, cipher}
 use Rattle.aes.specs.Schedule.{key_of}
 use Rattle.aes.proofs.Laws.{rounds_same}
 use Rattle.aes.proofs.encrypt.Goals as goal

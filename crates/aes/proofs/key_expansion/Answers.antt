@@ -1,7 +1,7 @@
 -- `aes::key_expansion` meets its contract. The invariant: the round keys up to number `round` are there, and `rcon` is x to the power
 -- `round`, which the next one adds. Assumes nothing.
 use mathlib.Core.Path.{◌≡◌, refl, ap, ◌∙◌}
-use Prim.Native.Nat.{◌+◌, ◌-◌, ◌<◌}
+use Prim.Native.Nat.{◌+◌, ◌<◌}
 use native.Mathlib.Omega.{arith}
 use borrow.Author.Rules.{rules}
 use lib.ListN.{length-set}

@@ -19,8 +19,8 @@ slice_bounds-walk-end-2 c =
 pub walk-requires : goal.walk-requires
 walk-requires c =
     record {
-      t = c.requires;
-      value_len = length-take-le c.width-w.result c.copy.new.to (omega (arith, c.copy.auto.to, c.if-out-w.false)) ∙ c.width-w.ensures;
+      known_function = c.requires;
+      whole_value = length-take-le c.width-w.result c.copy.new.to (omega (arith, c.copy.auto.to, c.if-out-w.false)) ∙ c.width-w.ensures;
     }
 
 pub returns : goal.returns

@@ -16,11 +16,11 @@ put_asked-n-requires c =
 
 pub slice_bounds-line-end : goal.slice_bounds-line-end
 slice_bounds-line-end c =
-    omega (arith, c.put_asked-n.ensures.ends, c.put_asked-n.auto.1.1.1.0, asked_short c.args.schedule c.args.k c.requires.1)
+    omega (arith, c.put_asked-n.ensures.ends, c.put_asked-n.auto.text, asked_short c.args.schedule c.args.k c.requires.1)
 
 pub slice_bounds-reads-end : goal.slice_bounds-reads-end
 slice_bounds-reads-end c =
-    sym (length-take-le _ _ (omega (arith, c.put_asked-n.ensures.ends, c.put_asked-n.auto.1.1.1.0, asked_short c.args.schedule c.args.k c.requires.1)))
+    sym (length-take-le _ _ (omega (arith, c.put_asked-n.ensures.ends, c.put_asked-n.auto.text, asked_short c.args.schedule c.args.k c.requires.1)))
 
 pub returns : goal.returns
 returns c =

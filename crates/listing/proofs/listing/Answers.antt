@@ -16,24 +16,24 @@ pub asks-requires : goal.asks-requires
 asks-requires c = (omega arith, omega arith)
 
 pub put_listing-requires : goal.put_listing-requires
-put_listing-requires c = (omega arith, omega arith, c.put_listing-arg-1.given.0.1)
+put_listing-requires c = (omega arith, omega arith, ap length c.loop-i.invariant.1 ∙ c.told-text)
 
 pub returns-then-asks : goal.returns-then-asks
 returns-then-asks c =
     let same = c.loop-i.invariant.1 in
     found _ c.loop-i.i c.loop-i.invariant.2 c.loop-i-test.true c.loop-i.invariant.0 (sym c.if-asks.true ∙ c.asks.ensures)
-    c.args.text.now _ _ (sym (ap length same) ∙ c.put_listing-arg-1.given.0.1) (rw same at c.put_listing.ensures)
+    c.args.text.now _ _ c.told-text (rw same at c.put_listing.ensures)
 
 pub loop-i-preserved : goal.loop-i-preserved
 loop-i-preserved c =
     (omega arith, c.loop-i.invariant.1, tried _ c.loop-i.i c.loop-i.invariant.2 c.loop-i-test.true (sym c.if-asks.false ∙ c.asks.ensures))
 
 pub put-requires : goal.put-requires
-put-requires c = omega (arith, c.put-arg-2-1.given.0.1)
+put-requires c = omega (arith, ap length c.loop-i.invariant.1)
 
 pub returns : goal.returns
 unfolding bytes
 returns c =
     let same = c.loop-i.invariant.1 in
     refused _ c.loop-i.i c.loop-i.invariant.2 (omega arith)
-    c.args.text.now _ _ (sym (ap length same) ∙ c.put-arg-2-1.given.0.1) (rw same at c.put.ensures)
+    c.args.text.now _ _ c.told-text (rw same at c.put.ensures)

@@ -10,7 +10,11 @@ put_head-first-requires c =
 
 pub put_rounds-run-requires : goal.put_rounds-run-requires
 put_rounds-run-requires c =
-    ((c.requires.0, c.requires.1), (card_started c.args.schedule c.args.k c.requires.0 c.requires.1 _ _ c.start.ensures, rounds_fit c.args.schedule c.args.k c.args.text.now c.requires.0 c.requires.1 c.requires.2 _ _ c.put_head-first.ensures))
+    record {
+      schedule_bound = (c.requires.0, c.requires.1);
+      card_value = card_started c.args.schedule c.args.k c.requires.0 c.requires.1 _ _ c.start.ensures;
+      at_bound = rounds_fit c.args.schedule c.args.k c.args.text.now c.requires.0 c.requires.1 c.requires.2 _ _ c.put_head-first.ensures;
+    }
 
 pub put_total-requires : goal.put_total-requires
 put_total-requires c =

@@ -20,16 +20,16 @@ put-requires-in_default c = omega (arith, c.requires, name_length c.args.schedul
 
 pub returns-in-0 : goal.returns-in-0
 unfolding bytes
-returns-in-0 c = written_as _ _ _ _ _ _ (name_0 _ c.in-0.keys1) c.put.ensures
+returns-in-0 c = written_as _ _ _ _ _ _ (name_0 _ c.in-0.is) c.put.ensures
 
 pub returns-in-1 : goal.returns-in-1
 unfolding bytes
-returns-in-1 c = written_as _ _ _ _ _ _ (name_1 _ c.in-1.keys2) c.put-in-1.ensures
+returns-in-1 c = written_as _ _ _ _ _ _ (name_1 _ c.in-1.is) c.put-in-1.ensures
 
 pub returns-in-2 : goal.returns-in-2
 unfolding bytes
-returns-in-2 c = written_as _ _ _ _ _ _ (name_2 _ c.in-2.keys3) c.put-in-2.ensures
+returns-in-2 c = written_as _ _ _ _ _ _ (name_2 _ c.in-2.is) c.put-in-2.ensures
 
 pub returns-in_default : goal.returns-in_default
 unfolding bytes
-returns-in_default c = let m = c.in_default.rest in written_as _ _ _ _ _ _ (name_3 _ m.0.0.1 m.0.1 m.1) c.put-in_default.ensures
+returns-in_default c = written_as _ _ _ _ _ _ (name_3 _ (λ e. omega arith) (λ e. omega arith) (λ e. omega arith)) c.put-in_default.ensures

@@ -1,6 +1,5 @@
 -- `listing::reads` meets its contract. The loop's invariant: the bytes passed are the line's, so what is left decides. Assumes nothing.
 use mathlib.Core.Path.{refl, sym, ◌∙◌}
-use Prim.Native.Nat.{◌-◌}
 use native.Mathlib.Omega.{arith}
 use borrow.Author.Rules.{rules}
 use Rattle.listing.proofs.ReadLaws.{reads_short, reads_next, reads_other, reads_all, reads_on}

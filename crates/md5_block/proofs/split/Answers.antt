@@ -1,5 +1,5 @@
 -- `md5_block::split` meets its contract. The loop's invariant: the words below j are in their places. Assumes nothing.
-use Rattle.std.proofs.Common.{◌-◌, ◌<◌, length, refl, arith, length-set, rules, below_none}
+use Rattle.std.proofs.Common.{◌<◌, length, refl, arith, length-set, rules, below_none}
 use Rattle.md5_block.proofs.Words.{one_word, all_words}
 use Rattle.md5_block.proofs.split.Goals as goal
 

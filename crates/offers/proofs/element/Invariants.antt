@@ -1,7 +1,5 @@
 -- `offers::element` meets its contract: the value keeps its 16 bytes, and no width is over 16. Assumes nothing.
-use Prim.Native.Nat.{◌-◌, ◌≤◌}
-use mathlib.Core.Path.{◌≡◌}
-use lib.ListN.{length}
+use Rattle.std.proofs.Common.{◌≡◌, ◌-◌, ◌≤◌, length}
 use Rattle.offers.proofs.element.Given as goal
 
 abbrev pub invariant-loop-i : goal.invariant-loop-i

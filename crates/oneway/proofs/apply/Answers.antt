@@ -6,15 +6,15 @@ use Rattle.oneway.proofs.apply.Goals as goal
 
 pub taken-v-requires : goal.taken-v-requires
 unfolding width
-taken-v-requires c = c.requires.value_len
+taken-v-requires c = c.requires.whole_value
 
 pub put-requires : goal.put-requires
 unfolding width
-put-requires c = c.requires.value_len
+put-requires c = c.requires.whole_value
 
 pub put-requires-else-chain-eq0 : goal.put-requires-else-chain-eq0
 unfolding width
-put-requires-else-chain-eq0 c = c.requires.value_len
+put-requires-else-chain-eq0 c = c.requires.whole_value
 
 pub returns-then-chain-eq0 : goal.returns-then-chain-eq0
 returns-then-chain-eq0 c =
@@ -24,5 +24,5 @@ returns-then-chain-eq0 c =
 pub returns-else-chain-eq0 : goal.returns-else-chain-eq0
 unfolding step_by
 returns-else-chain-eq0 c =
-    step_1 c.args.chain c.args.value.now c.requires.t c.if-chain-eq0.false
+    step_1 c.args.chain c.args.value.now c.requires.known_function c.if-chain-eq0.false
     (c.put-else-chain-eq0.ensures ∙ c.aes_of.ensures ∙ ap (step_by 1) c.taken-v.ensures)

@@ -1,7 +1,7 @@
 -- `oneway::padding` meets its contract. The loop's invariant: the first i bytes of the value stand in front of the block that was
 -- laid out for them. Assumes nothing.
 use mathlib.Core.Path.{◌≡◌, sym, ◌∙◌}
-use Prim.Native.Nat.{◌<◌, ◌-◌}
+use Prim.Native.Nat.{◌<◌}
 use native.Mathlib.Omega.{arith}
 use lib.ListN.{length, get_or-append}
 use borrow.Author.Rules.{rules}

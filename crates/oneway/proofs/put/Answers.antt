@@ -1,7 +1,6 @@
 -- `oneway::put` meets its contract. The loop's invariant: the first i bytes are the value's. Assumes nothing.
 use borrow.Author.Rules.{rules}
 use mathlib.Core.Path.{◌≡◌, refl}
-use Prim.Native.Nat.{◌-◌}
 use Rattle.lists.specs.Writing.{writing_none, writing_next, writing_all}
 use native.Mathlib.Omega.{arith}
 use lib.ListN.{length}

@@ -1,7 +1,6 @@
 -- `oneway::taken` meets its contract. The loop's invariant: the first i bytes are those of the slice. Assumes nothing.
 use borrow.Author.Rules.{rules}
 use mathlib.Core.Path.{refl}
-use Prim.Native.Nat.{◌-◌}
 use Rattle.lists.specs.Writing.{writing_none, writing_next, writing_all}
 use Rattle.oneway.proofs.taken.Goals as goal
 

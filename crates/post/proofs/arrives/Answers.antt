@@ -29,8 +29,8 @@ leads-requires c =
     let width = c.width-w in
     let copy = c.copy in
     record {
-      t = c.requires.known;
-      value_len = copy_wide c.args.chain c.args.last.now c.requires.wide _ width.ensures _ copy.ensures;
+      known_function = c.requires.known;
+      whole_value = copy_wide c.args.chain c.args.last.now c.requires.wide _ width.ensures _ copy.ensures;
     }
 
 pub returns : goal.returns

@@ -45,8 +45,8 @@ pub search-requires : goal.search-requires
 search-requires c =
     let width = c.width-w in
     let copy = c.copy in record {
-      t = (walkable c.args.head c.args.value.now c.requires.sound.numbered c.requires.wide).known;
-      value_len = copy_wide (chain_of c.args.head) c.args.value.now c.requires.wide _ width.ensures _ copy.ensures;
+      known_function = (walkable c.args.head c.args.value.now c.requires.sound.numbered c.requires.wide).known;
+      whole_value = copy_wide (chain_of c.args.head) c.args.value.now c.requires.wide _ width.ensures _ copy.ensures;
     }
 
 pub returns : goal.returns

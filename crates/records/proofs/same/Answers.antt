@@ -1,5 +1,4 @@
 -- `records::same` meets its contract. The loop's invariant: what is left to compare decides. Assumes nothing.
-use Prim.Native.Nat.{◌-◌}
 use mathlib.Core.Path.{refl}
 use native.Mathlib.Omega.{arith}
 use Rattle.records.proofs.SameLaws.{same_lengths, comparing_next, comparing_stops, compared}

@@ -1,16 +1,15 @@
 -- `records::walk` meets its contract. The loop's invariant: after i steps the value is the chain's element i. Assumes nothing.
 use mathlib.Core.Path.{◌∙◌}
-use Prim.Native.Nat.{◌-◌}
 use native.Mathlib.Omega.{arith}
 use Rattle.records.proofs.Laws.{walking_none, walking_next, walked}
 use Rattle.records.proofs.walk.Goals as goal
 
 pub loop-i-init : goal.loop-i-init
-loop-i-init c = (omega arith, walking_none _ _ c.requires.value_len)
+loop-i-init c = (omega arith, walking_none _ _ c.requires.whole_value)
 
 pub apply-requires : goal.apply-requires
 apply-requires c =
-    record { t = c.requires.t; value_len = c.loop-i.invariant.1.sized ∙ c.loop-i.invariant.1.wide }
+    record { known_function = c.requires.known_function; whole_value = c.loop-i.invariant.1.sized ∙ c.loop-i.invariant.1.wide }
 
 pub loop-i-smaller : goal.loop-i-smaller
 loop-i-smaller c = omega arith

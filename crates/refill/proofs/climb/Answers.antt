@@ -5,11 +5,11 @@ use Rattle.refill.proofs.Laws.{climbing_none, climbing_next, climbed}
 use Rattle.refill.proofs.climb.Goals as goal
 
 pub loop-at-init : goal.loop-at-init
-loop-at-init c = (omega arith, omega arith, climbing_none _ _ _ c.requires.value_len.0)
+loop-at-init c = (omega arith, omega arith, climbing_none _ _ _ c.requires.whole_and_upwards.0)
 
 pub apply-requires : goal.apply-requires
 apply-requires c =
-    record { t = c.requires.t; value_len = c.loop-at.invariant.2.sized ∙ c.loop-at.invariant.2.wide }
+    record { known_function = c.requires.known_function; whole_value = c.loop-at.invariant.2.sized ∙ c.loop-at.invariant.2.wide }
 
 pub loop-at-smaller : goal.loop-at-smaller
 loop-at-smaller c = omega arith

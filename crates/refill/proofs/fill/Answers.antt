@@ -19,8 +19,8 @@ bounds-positions-i c = omega arith
 pub climb-at-requires : goal.climb-at-requires
 climb-at-requires c =
     record {
-      t = c.requires.known;
-      value_len = (c.loop-i.invariant.walks.sized ∙ c.requires.seeded, fill_up _ _ _ _ c.requires _ _ _ _ _ c.loop-i.invariant (omega (arith, c.loop-i-test.true)));
+      known_function = c.requires.known;
+      whole_and_upwards = (c.loop-i.invariant.walks.sized ∙ c.requires.seeded, fill_up _ _ _ _ c.requires _ _ _ _ _ c.loop-i.invariant (omega (arith, c.loop-i-test.true)));
     }
 
 pub overflow_mul-i : goal.overflow_mul-i

@@ -43,7 +43,7 @@ pub apply-requires : goal.apply-requires
 apply-requires c =
     let w = c.width-w.result in
     let e = part_length c.open-to.result (c.open-to.result + w) c.open-to.new.new (omega arith) (lent (goal.at.apply-requires c).After-open-to) in
-    record { t = c.requires.t; value_len = e ∙ omega (arith, c.width-w.ensures) }
+    record { known_function = c.requires.known_function; whole_value = e ∙ omega (arith, c.width-w.ensures) }
 
 pub overflow_add-applied : goal.overflow_add-applied
 overflow_add-applied c =

@@ -79,7 +79,7 @@ copy-requires-2 c =
 pub hash-applied-requires : goal.hash-applied-requires
 hash-applied-requires c =
     record {
-      t = c.requires.advancing.known;
+      known_function = c.requires.advancing.known;
       hashing = prepare_asks (counted (goal.at.hash-applied-requires c).After-held_count_after) c.held_count_after-2.ensures c.copy-2.new.to c.copy-2.auto.to;
     }
 

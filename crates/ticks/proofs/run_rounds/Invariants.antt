@@ -3,7 +3,7 @@ use Rattle.std.proofs.Common.{◌≡◌, ◌-◌, ◌≤◌, length}
 use Rattle.ticks.proofs.run_rounds.Given as goal
 
 abbrev pub invariant-loop-rounds : goal.invariant-loop-rounds
-invariant-loop-rounds l = (l.rounds ≤ 32) × (length l.record ≡ length l.initial.record)
+invariant-loop-rounds g l = (l.rounds ≤ 32) × (length l.record ≡ length l.initial.record)
 
 abbrev pub decreases-loop-rounds : goal.decreases-loop-rounds
-decreases-loop-rounds l = 32 - l.rounds
+decreases-loop-rounds g l = 32 - l.rounds

@@ -1,6 +1,5 @@
 -- `listing::rounds::put_positions` meets its contract. The loop's invariant: what is still to be written makes the text that was promised.
 -- Assumes nothing.
-use Prim.Native.Nat.{◌-◌}
 use native.Mathlib.Omega.{arith}
 use borrow.Author.Rules.{rules}
 use Rattle.listing.proofs.LineLaws.{left_all, left_room, left_next, left_none, left_length}

@@ -7,20 +7,23 @@ use Rattle.listing.proofs.rounds.put_round.Goals as goal
 
 pub returns-in_default : goal.returns-in_default
 returns-in_default c =
-    absurd (never_refused c.args.schedule c.args.k c.args.round.0 c.requires.0 _ _ c.positions-listed.ensures _ c.enum_told-1.given.1)
+    absurd (never_refused c.args.schedule c.args.k c.args.round.0 c.requires.round _ _ c.positions-listed.ensures _ c.in_default.is)
 
 pub slice_bounds-list-end : goal.slice_bounds-list-end
 slice_bounds-list-end c =
-    count_fits c.args.schedule c.args.k c.args.round.0 c.requires.0 _ _ c.positions-listed.ensures _ _ c.listed-1.given.1
+    count_fits c.args.schedule c.args.k c.args.round.0 c.requires.round _ _ c.positions-listed.ensures _ _ c.in-Listed.is
 
 pub slice_bounds-put_answer-end : goal.slice_bounds-put_answer-end
 slice_bounds-put_answer-end c =
-    sym (length-take-le _ _ (count_fits c.args.schedule c.args.k c.args.round.0 c.requires.0 _ _ c.positions-listed.ensures _ _ c.listed-1.given.1))
+    sym (length-take-le _ _ (count_fits c.args.schedule c.args.k c.args.round.0 c.requires.round _ _ c.positions-listed.ensures _ _ c.in-Listed.is))
 
 pub put_answer-requires : goal.put_answer-requires
 put_answer-requires c =
-    answer_fits c.args.schedule c.args.k c.args.round.0 c.requires.0 _ _ c.positions-listed.ensures _ _ c.listed-1.given.1 _ _ _ _ c.requires.1.0 c.round-answer.ensures c.args.text.now _ c.requires.1.1
+    answer_fits c.args.schedule c.args.k c.args.round.0 c.requires.round _ _ c.positions-listed.ensures _ _ c.in-Listed.is _ _ _ _ c.requires.card_value c.round-answer.ensures c.args.text.now _ c.requires.round_in_bounds
 
 pub returns : goal.returns
 returns c =
-    (line_says c.args.schedule c.args.k c.args.round.0 c.requires.0 _ _ c.positions-listed.ensures _ _ c.listed-1.given.1 _ _ _ _ c.requires.1.0 c.round-answer.ensures c.args.text.now _ _ _ c.put_answer.ensures, card_moves c.args.schedule c.args.k c.args.round.0 c.requires.0 _ _ c.positions-listed.ensures _ _ c.listed-1.given.1 _ _ _ _ c.requires.1.0 c.round-answer.ensures)
+    record {
+      lined = line_says c.args.schedule c.args.k c.args.round.0 c.requires.round _ _ c.positions-listed.ensures _ _ c.in-Listed.is _ _ _ _ c.requires.card_value c.round-answer.ensures c.args.text.now _ _ _ c.put_answer.ensures;
+      card_after = card_moves c.args.schedule c.args.k c.args.round.0 c.requires.round _ _ c.positions-listed.ensures _ _ c.in-Listed.is _ _ _ _ c.requires.card_value c.round-answer.ensures;
+    }

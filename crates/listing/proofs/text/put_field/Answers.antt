@@ -13,14 +13,14 @@ put_decimal-next-requires c = first_fits (decimal c.args.n) (c.args.mark ∷ [])
 pub bounds-text-next : goal.bounds-text-next
 unfolding field
 bounds-text-next c =
-    omega (arith, next_fits (decimal c.args.n) (c.args.mark ∷ []) c.args.text.now c.args.at c.put_decimal-next.new.1.1.0 c.put_decimal-next.result c.put_decimal-next.ensures c.requires)
+    omega (arith, next_fits (decimal c.args.n) (c.args.mark ∷ []) c.args.text.now c.args.at c.put_decimal-next.new.text c.put_decimal-next.result c.put_decimal-next.ensures c.requires)
 
 pub overflow_add-result : goal.overflow_add-result
 unfolding field
 overflow_add-result c =
-    omega (arith, c.well_formed, c.put_decimal-next.auto.1.1.0, next_fits (decimal c.args.n) (c.args.mark ∷ []) c.args.text.now c.args.at c.put_decimal-next.new.1.1.0 c.put_decimal-next.result c.put_decimal-next.ensures c.requires)
+    omega (arith, c.well_formed, c.put_decimal-next.auto.text, next_fits (decimal c.args.n) (c.args.mark ∷ []) c.args.text.now c.args.at c.put_decimal-next.new.text c.put_decimal-next.result c.put_decimal-next.ensures c.requires)
 
 pub returns : goal.returns
 unfolding field
 returns c =
-    written_both (decimal c.args.n) (c.args.mark ∷ []) c.args.text.now c.args.at c.put_decimal-next.new.1.1.0 c.put_decimal-next.result c.put_decimal-next.ensures _ _ (written_one c.args.mark c.put_decimal-next.result c.put_decimal-next.new.1.1.0)
+    written_both (decimal c.args.n) (c.args.mark ∷ []) c.args.text.now c.args.at c.put_decimal-next.new.text c.put_decimal-next.result c.put_decimal-next.ensures _ _ (written_one c.args.mark c.put_decimal-next.result c.put_decimal-next.new.text)

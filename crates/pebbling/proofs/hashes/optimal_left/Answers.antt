@@ -1,7 +1,7 @@
 -- `hashes::optimal_left` meets its contract: it is the closed form, and none of its differences goes below 0. Assumes nothing.
 use native.Mathlib.Omega.{arith}
 use mathlib.Core.Path.{refl}
-use Prim.Native.Nat.{◌-◌, ◌^◌, ◌≤◌}
+use Prim.Native.Nat.{◌-◌, ◌^◌}
 use Rattle.pebbling.proofs.HashLaws.{Leftover, leftover, left_at}
 use Rattle.pebbling.proofs.hashes.optimal_left.Goals as goal
 

@@ -3,7 +3,7 @@
 use mathlib.Core.Path.{◌≡◌}
 use Prim.Native.Nat.{suc, ◌-◌}
 use native.Mathlib.Omega.{arith}
-use Rattle.pebbling.proofs.HeldLaws.{level, aside_late_asks, aside_late, aside_few, aside_last, aside_both_asks, aside_both}
+use Rattle.pebbling.proofs.HeldLaws.{level, aside_late_asks, aside_late, aside_last, aside_both_asks, aside_both}
 use Rattle.pebbling.proofs.held.+held_count_aside.Goals as goal
 use Rattle.pebbling.proofs.held.+held_count_aside.Goals.{Start}
 
@@ -24,8 +24,7 @@ returns-then-n-half t c =
 
 pub held_count_aside-requires-2 : goal.held_count_aside-requires-2
 held_count_aside-requires-2 t c =
-    let up : suc (c.args.k - 1) ≡ c.args.k = level _ _ _ _ c.requires in
-    (
+    let up : suc (c.args.k - 1) ≡ c.args.k = level _ _ _ _ c.requires in (
       omega (arith, up),
       aside_both_asks _ _ _ _ _ _ up c.requires c.power-half.ensures c.if-half-n.false _ _ c.hashes_done.ensures c.held_count_after-own.ensures c.if-n-half.false,
     )

@@ -1,7 +1,7 @@
 -- `position_list::list_all` meets its contract. Past round 2^k the pebbler is two of the next lower level: the upper one's positions are written first, and the
 -- lower one's where those end, which ListLaws makes one run of stores, and their hashes are added. The level falls at each call. Assumes nothing.
-use mathlib.Core.Path.{◌≡◌, ◌∙◌}
-use Prim.Native.Nat.{suc, ◌-◌, ◌^◌, ◌≤◌, ◌<◌}
+use mathlib.Core.Path.{◌≡◌}
+use Prim.Native.Nat.{suc, ◌-◌}
 use native.Mathlib.Omega.{arith}
 use Rattle.pebbling.proofs.ListLaws.{level, own_asks, own_says, lower_round, upper_round, lower_asks, lower_says, lower_works, first_asks, second_asks, both_say, both_work, works_small}
 use Rattle.pebbling.specs.Recursion.{schedule}
@@ -24,8 +24,7 @@ list_all-requires t c =
 
 pub returns-then-half-n : goal.returns-then-half-n
 returns-then-half-n t c =
-    let up : suc (c.args.k - 1) ≡ c.args.k = level _ _ _ c.power-whole.ensures c.if-r-whole.false c.requires.3 in
-    (
+    let up : suc (c.args.k - 1) ≡ c.args.k = level _ _ _ c.power-whole.ensures c.if-r-whole.false c.requires.3 in (
       lower_says (schedule c.args.schedule) _ _ c.args.base _ _ _ up c.power-whole.ensures c.power-half.ensures c.if-r-whole.false c.if-half-n.true _ _ _ _ c.list_all.ensures.0,
       lower_works (schedule c.args.schedule) _ _ c.args.base _ _ _ up c.power-whole.ensures c.power-half.ensures c.if-r-whole.false c.if-half-n.true _ c.list_all.ensures.1,
     )
@@ -54,8 +53,7 @@ overflow_add-hashes t c =
 
 pub returns : goal.returns
 returns t c =
-    let up : suc (c.args.k - 1) ≡ c.args.k = level _ _ _ c.power-whole.ensures c.if-r-whole.false c.requires.3 in
-    (
+    let up : suc (c.args.k - 1) ≡ c.args.k = level _ _ _ c.power-whole.ensures c.if-r-whole.false c.requires.3 in (
       both_say (schedule c.args.schedule) _ _ c.args.base _ _ _ up c.power-whole.ensures c.power-half.ensures c.if-r-whole.false c.args.list.now c.args.at c.requires.4 c.requires.5 _ _ c.list_all-upper.ensures.0 _ _ c.list_all-lower.ensures.0,
       both_work (schedule c.args.schedule) _ _ c.args.base _ _ _ up c.power-whole.ensures c.power-half.ensures c.if-r-whole.false _ _ c.list_all-upper.ensures.1 c.list_all-lower.ensures.1,
     )

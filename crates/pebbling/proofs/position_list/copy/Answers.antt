@@ -1,7 +1,6 @@
 -- `position_list::copy` meets its contract. The loop's invariant: the first i entries are those of `from`, and the others are as they were. Assumes nothing.
 use borrow.Author.Rules.{rules}
 use mathlib.Core.Path.{◌≡◌}
-use Prim.Native.Nat.{◌-◌}
 use native.Mathlib.Omega.{arith}
 use lib.ListN.{length}
 use Rattle.lists.specs.Writing.{writing_none, writing_copied, writing_front}

@@ -1,7 +1,7 @@
 -- `position_list::list_own` meets its contract. The newest y is y_(n-1) for the length n of what is left of 2^k, so the loop over y_n to y_k writes the finished
 -- ones; its invariant is that what is still to be stored makes the list that was promised. Assumes nothing.
 use native.Mathlib.Omega.{arith}
-use Prim.Native.Nat.{◌-◌, ◌≤◌, ◌<◌}
+use Prim.Native.Nat.{◌≤◌, ◌<◌}
 use lib.ListN.{length, length-set}
 use lib.Pow.{pow_mono}
 use mathlib.Core.Path.{◌∙◌}

@@ -6,12 +6,12 @@ use Rattle.post.proofs.StepLaws.{searching_none, search_fits, search_on, searche
 use Rattle.post.proofs.steps.search.Goals as goal
 
 pub loop-g-init : goal.loop-g-init
-loop-g-init c = searching_none _ _ _ _ c.requires.value_len
+loop-g-init c = searching_none _ _ _ _ c.requires.whole_value
 
 pub walk-requires : goal.walk-requires
 walk-requires c =
     let turn = c.loop-g in
-    record { t = c.requires.t; value_len = turn.invariant.walks.sized ∙ turn.invariant.walks.wide }
+    record { known_function = c.requires.known_function; whole_value = turn.invariant.walks.sized ∙ turn.invariant.walks.wide }
 
 pub overflow_add-g : goal.overflow_add-g
 overflow_add-g c = omega (arith, c.loop-g.invariant.upto)
