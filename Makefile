@@ -1,15 +1,12 @@
 # The two commands: `make demo` runs the main job, `make test` passes.
-.PHONY: help demo tool build library test rust-test bench install uninstall have-cargo
+.PHONY: help demo tool build library test rust-test bench have-cargo
 
 TOOL = rust/target/release/perchmellow
-PREFIX ?= /usr/local
 
 help:
 	@echo "make demo        a card of 16 ticks pays a post on the terminal, a line a round"
 	@echo "make tool        build perchmellow, the bench tool, and say where it is"
-	@echo "make install     copy the built tool, its manual page and completions below PREFIX ($(PREFIX)), in DESTDIR if that is given"
-	@echo "make uninstall   remove what make install copied, with the same PREFIX and DESTDIR"
-	@echo "make test        prove everything from nothing, try the must-fail edits, run the programs (some minutes)"
+	@echo "make test        prove everything, try the must-fail edits, run the programs (some minutes)"
 	@echo "make rust-test   the Rust tests: the proved library beside plain Rust, and the bench tool"
 	@echo "make bench       time the two side by side; make bench BENCH=--markdown prints tables to paste"
 
@@ -35,15 +32,6 @@ rust-test: library
 bench: library
 	@cd rust && cargo build --quiet --release --offline -p bench
 	@rust/target/release/bench $(BENCH)
-
-# Neither builds: what root builds, a user's build could not write over. The names go by the environment, so that they may have spaces.
-install uninstall: export FROM = $(TOOL)
-install uninstall: export BELOW = $(DESTDIR)$(PREFIX)
-install:
-	@tools/install "$$FROM" "$$BELOW"
-
-uninstall:
-	@tools/install --remove "$$BELOW"
 
 have-cargo:
 	@command -v cargo >/dev/null 2>&1 || { \

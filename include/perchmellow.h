@@ -1,7 +1,7 @@
 /*
  * Perchmellow: a rider's card and a charging post, proved.
  *
- *     tools/staticlib                                 builds target/staticlib/libperchmellow.a for this machine (x86-64 or aarch64 Linux)
+ *     tools/staticlib                                 builds target/staticlib/libperchmellow.a for x86-64 Linux
  *     cc -Iinclude app.c target/staticlib/libperchmellow.a
  *
  * A card of 2^k ticks holds values of a chain: x_0 is the seed, x_(i+1) is the function of x_i, and the anchor is x_(2^k).
@@ -17,8 +17,6 @@
  *   - a buffer that a call writes (not const below) overlaps no other buffer of that call;
  *   - no other thread uses the buffers during the call. The library itself keeps no state.
  * A pointer may be null where its length is 0.
- *
- * For C99 or later, and C++.
  */
 #ifndef PERCHMELLOW_H
 #define PERCHMELLOW_H
@@ -26,13 +24,17 @@
 #include <stddef.h>
 #include <stdint.h>
 
-/* ---- the version: the Rust wrapper's and the bench tool's too */
+#ifdef __cplusplus
+extern "C" {
+#endif
 
-#define PERCHMELLOW_VERSION "2.0.0"
-#define PERCHMELLOW_VERSION_MAJOR 2
+/* ---- the version: the Rust wrapper's too */
+
+#define PERCHMELLOW_VERSION "1.0.0"
+#define PERCHMELLOW_VERSION_MAJOR 1
 #define PERCHMELLOW_VERSION_MINOR 0
 #define PERCHMELLOW_VERSION_PATCH 0
-/* one number to compare: #if PERCHMELLOW_VERSION_NUMBER >= 20100 is true from 2.1.0 on */
+/* one number to compare: #if PERCHMELLOW_VERSION_NUMBER >= 10100 is true from 1.1.0 on */
 #define PERCHMELLOW_VERSION_NUMBER (10000 * PERCHMELLOW_VERSION_MAJOR + 100 * PERCHMELLOW_VERSION_MINOR + PERCHMELLOW_VERSION_PATCH)
 
 /* ---- sizes, in bytes where nothing else is said */
@@ -47,42 +49,14 @@
 
 /* slots of a card: k + 1, under speed-1 the larger of k + 1 and 2k - 2 */
 #define PERCHMELLOW_SLOTS(k, schedule) ((schedule) == PERCHMELLOW_SPEED_1 && (k) > 3u ? 2u * (k) - 2u : (k) + 1u)
-/* the level of a card of so many ticks: the least k with 2^k at least as many. PERCHMELLOW_LEVEL(300u) is 9; over 2^20 it is 21 */
+/* the level of a card of so many ticks, from 1 to 2^20: the least k with 2^k at least as many. PERCHMELLOW_LEVEL(300u) is 9 */
 #define PERCHMELLOW_LEVEL(ticks)                                                                                              \
     (0u + ((ticks) > 1u) + ((ticks) > 2u) + ((ticks) > 4u) + ((ticks) > 8u) + ((ticks) > 16u) + ((ticks) > 32u) +             \
      ((ticks) > 64u) + ((ticks) > 128u) + ((ticks) > 256u) + ((ticks) > 512u) + ((ticks) > 1024u) + ((ticks) > 2048u) +       \
      ((ticks) > 4096u) + ((ticks) > 8192u) + ((ticks) > 16384u) + ((ticks) > 32768u) + ((ticks) > 65536u) +                   \
-     ((ticks) > 131072u) + ((ticks) > 262144u) + ((ticks) > 524288u) + ((ticks) > 1048576u))
-/*
- * the record of a card of 2^k ticks; of 300 ticks, PERCHMELLOW_CARD(PERCHMELLOW_LEVEL(300u), schedule)
- *
- * No card has a k over 20. Where such a k is a constant, this does not compile with gcc and clang; where it is known only when the
- * program runs, this is 0, and the call that is lent so many bytes says 2. In #if, take 16 + 16 * PERCHMELLOW_SLOTS(k, schedule).
- */
-#define PERCHMELLOW_CARD(k, schedule)                                                                                         \
-    (0u * (unsigned)PERCHMELLOW_CARD_CHECK(k) +                                                                               \
-     ((k) <= PERCHMELLOW_K_MOST ? 16u + PERCHMELLOW_VALUE * PERCHMELLOW_SLOTS(k, schedule) : 0u))
-
-/* some size, of something that cannot be had with a constant k over 20 */
-#if defined __GNUC__ && defined __cplusplus && __cplusplus >= 201103L
-extern "C++" {
-template <bool k_is_over_20> struct perchmellow_card_check {
-    static_assert(!k_is_over_20, "PERCHMELLOW_CARD: k is over 20");
-};
-}
-#define PERCHMELLOW_CARD_CHECK(k) sizeof(perchmellow_card_check<(__builtin_constant_p(k) && (k) > PERCHMELLOW_K_MOST)>)
-#elif defined __GNUC__ && !defined __cplusplus
-/* 1 ? (void *)x : (int *)0 is an int * where x is a constant 0, and a void * where it is anything else */
-#define PERCHMELLOW_CARD_CHECK(k)                                                                                             \
-    __extension__ sizeof(struct {                                                                                             \
-        int PERCHMELLOW_CARD_k_is_over_20                                                                                     \
-            : __builtin_types_compatible_p(__typeof__(1 ? (void *)(uintptr_t)((k) <= PERCHMELLOW_K_MOST) : (int *)0), int *)  \
-              ? -1                                                                                                            \
-              : 1;                                                                                                            \
-    })
-#else
-#define PERCHMELLOW_CARD_CHECK(k) 1u
-#endif
+     ((ticks) > 131072u) + ((ticks) > 262144u) + ((ticks) > 524288u))
+/* the record of a card of 2^k ticks, for k up to 20; of 300 ticks, PERCHMELLOW_CARD(PERCHMELLOW_LEVEL(300u), schedule) */
+#define PERCHMELLOW_CARD(k, schedule) (16u + PERCHMELLOW_VALUE * PERCHMELLOW_SLOTS(k, schedule))
 
 /* ---- records, byte by byte; numbers have the low byte first. docs/RULES.md, "Records", says more
  *
@@ -138,11 +112,8 @@ template <bool k_is_over_20> struct perchmellow_card_check {
 #define PERCHMELLOW_NOT_TAKEN 9u         /* no number of steps leads from the value to the one held */
 #define PERCHMELLOW_BAD_TICKS 10u        /* the number of ticks outside 1 to 1,048,576 */
 
-#ifdef __cplusplus
-extern "C" {
-#endif
-
-/* A refusal's sentence, as the Rust wrapper and the bench tool say it. Never null; nothing has to be linked for it. */
+/* A refusal's sentence, as the Rust wrapper says it. Never null; nothing has to be linked for it. For C99 or later, and C++. */
+#if defined __cplusplus || (defined __STDC_VERSION__ && __STDC_VERSION__ >= 199901L)
 static inline const char *perchmellow_refusal_text(unsigned number) {
     switch (number) {
     case 0u: return "nothing is refused";
@@ -162,6 +133,7 @@ static inline const char *perchmellow_refusal_text(unsigned number) {
     default: return "no refusal has this number";
     }
 }
+#endif
 
 /* ---- the calls. Each says the first refusal that applies, in the order given */
 

@@ -1,14 +1,14 @@
 #!/bin/sh
 # Runs the listing program on lines that it can read and lines that it cannot, and compares what it writes to the byte. Run it from the
-# repository's root, after `rt check pebbles`. What is right comes from the example of docs/RULES.md and from tests/pebbling.py, a model of the
+# repository's root, after `rt ci`. What is right comes from the example of docs/RULES.md and from tests/pebbling.py, a model of the
 # recursion that was written from the rules alone. Prints a line for each case that failed and then the count; fails if any did.
 # A first argument names another program to try, which this machine can run. A program that does not answer is ended after ten seconds,
 # and its case has failed.
 set -u
 
-program=${1:-$PWD/target/bin/pebbles}
+program=${1:-$PWD/crates/pebbles/out/pebbles}
 if ! [ -x "$program" ]; then
-    echo "pebbles.sh: $program is not there; run 'rt check pebbles' first." >&2
+    echo "pebbles.sh: $program is not there; run 'rt ci', or 'rt run' in crates/pebbles, first." >&2
     exit 2
 fi
 

@@ -27,22 +27,22 @@ holds() {
 
 # ---- a small repository, and a stand-in for rt that builds what $work/build says and counts
 
-mkdir -p "$work/bin" "$work/kit/docs" "$work/kit/on/$(uname -m)/toolchain/bin" "$work/repository/tools" "$work/repository/rust/target/release"
+mkdir -p "$work/bin" "$work/repository/tools" "$work/repository/rust/target/release"
 cat >"$work/bin/rt" <<END
 #!/bin/sh
 case \$1 in
     version) cat "$work/version" ;;
-    doc) echo "$work/kit/docs/START-HERE.md" ;;
-    staticlib)
+    lib)
+        [ "\${PWD##*/}" = perchmellow_c ] || exit 9
         echo \$((\$(cat "$work/calls") + 1)) >"$work/calls"
-        mkdir -p target/staticlib
+        mkdir -p out
         . "$work/build"
         ;;
+    *) exit 9 ;;
 esac
 END
 printf '#!/bin/sh\necho "cargo $*" >&2\n' >"$work/bin/cargo"
-printf '#!/bin/sh\n' >"$work/kit/on/$(uname -m)/toolchain/bin/clang"
-chmod +x "$work/bin/rt" "$work/bin/cargo" "$work/kit/on/$(uname -m)/toolchain/bin/clang"
+chmod +x "$work/bin/rt" "$work/bin/cargo"
 echo kit one >"$work/version"
 echo 0 >"$work/calls"
 : >"$work/said"
@@ -51,28 +51,35 @@ cp "$root/tools/staticlib" "$work/repository/tools/"
 cp "$root/Makefile" "$work/repository/"
 ln -s /bin/true "$work/repository/rust/target/release/bench"
 cd "$work/repository" || exit 2
-printf '# crates\nlists:\ntables:\ncard: lists tables io\nperchmellow: card lists\naside: lists\n' >crates.txt
-for crate in lists tables card perchmellow aside; do
+printf '# crates\nlists:\ntables:\ncard: lists tables io\nperchmellow_c staticlib: card lists\naside: lists\n' >crates.txt
+for crate in lists tables card perchmellow_c aside; do
     mkdir -p "crates/$crate/src" "crates/$crate/must-fail"
     echo "$crate" >"crates/$crate/src/lib.rt"
     echo "$crate" >"crates/$crate/must-fail/one.edit"
 done
 library=target/staticlib/libperchmellow.a
 
+# what rt says of crates that it proves; of tables, which has not changed, it says nothing
 cat >"$work/whole" <<'END'
-echo "fn lists::first: proved" >&2
-echo "rt: lists proved (7 s)" >&2
-echo "rt: tables proved (unchanged since it was last proved)" >&2
-echo "rt: card proved (38 s)" >&2
-echo "fn perchmellow::start: proved"
-echo '!<arch>' >target/staticlib/libperchmellow.a
-echo "rt: target/staticlib/libperchmellow.a has the functions of perchmellow"
+echo "rt: lists: begins with what a check kept in /elsewhere"
+echo "fn lists::first: proved"
+echo "crate lists: modules loaded=0 checked=34"
+echo "logic=proved functions=1 incremental=trusted"
+echo "rt: chose --jobs 2 for card"
+echo "library lists: modules loaded=0 checked=0"
+echo "crate card: modules loaded=52 checked=0"
+echo "logic=proved functions=7 incremental=trusted"
+echo "fn perchmellow_c::perchmellow_start: proved"
+echo "crate perchmellow_c: modules loaded=0 checked=34"
+echo "axioms std: none reached of the 2 declared"
+echo "logic=proved functions=10 target=x86_64-unknown-linux-gnu"
+echo '!<arch>' >out/libperchmellow_c.a
 END
 cat >"$work/right" <<'END'
 proving the library (some minutes from nothing) ...
-proved 1 of 4: lists (7 s)
-proved 3 of 4: card (38 s)
-proved 4 of 4: perchmellow
+proved: lists
+proved: card
+proved: perchmellow_c
 END
 cp "$work/whole" "$work/build"
 
@@ -113,6 +120,8 @@ mv crates/card/src/lib.rt crates/card/src/main.rt
 again "a file of another name"
 echo more >>crates/aside/src/lib.rt
 echo more >>crates/card/must-fail/one.edit
+mkdir -p crates/lists/out
+echo more >>crates/lists/out/lists.rlib
 holds "files that the library is not made from" rests
 echo '# more' >>crates.txt
 again "crates.txt changed"
@@ -148,22 +157,22 @@ breaks() {
 }
 
 breaks <<'END'
-echo "lists.rt:3: error: not so" >&2
-echo "rt: lists NOT PROVED (exit 1, 2 s)" >&2
-echo "rt: tables proved (1 s)" >&2
-echo "rt: card NOT PROVED: its dependency lists is not proved" >&2
-echo "rt: FAILED: lists card"
+echo "fn lists::first: no proof: expected answers in ./proofs/first/Answers.antt"
+echo "crate lists: modules loaded=0 checked=0"
+echo "logic=not-proved"
+echo "rt: the library lists did not build, so nothing above it was checked" >&2
 exit 1
 END
-holds "a crate that is not proved" fails 1 'lists.rt:3: error: not so' 'rt: lists NOT PROVED (exit 1, 2 s)' 'rt: FAILED: lists card'
+holds "a crate that is not proved" fails 1 'fn lists::first: no proof: expected answers in ./proofs/first/Answers.antt' 'logic=not-proved' 'rt: the library lists did not build, so nothing above it was checked'
 breaks <<'END'
-echo "rt: card proved (1 s)" >&2
-echo "perchmellow.rt:3: error: not so"
+echo "crate card: modules loaded=0 checked=0"
+echo "logic=proved functions=1"
+echo "perchmellow_c.rt:3: error: not so"
 exit 3
 END
-holds "the last crate is not proved" fails 3 'proved 1 of 4: card (1 s)' 'perchmellow.rt:3: error: not so'
+holds "the last crate is not proved" fails 3 'proved: card' 'perchmellow_c.rt:3: error: not so'
 breaks <<'END'
-echo half >target/staticlib/libperchmellow.a
+echo half >out/libperchmellow_c.a
 exit 1
 END
 holds "half a library" fails 1 'perchmellow: rt did not prove and build the library; what it said stands above.'
@@ -179,8 +188,12 @@ cut() {
     cp "$work/whole" "$work/build"
     builds
 }
+breaks <<'END'
+exit 0
+END
+holds "no library although rt says that all is well" fails 2
 breaks <<END
-echo half >target/staticlib/libperchmellow.a
+echo half >out/libperchmellow_c.a
 kill -KILL \$(cat "$work/pid")
 END
 holds "a build that is cut off" cut
@@ -195,7 +208,7 @@ changes() {
     builds
 }
 breaks <<END
-echo more >>crates/card/src/main.rt
+echo more >>../card/src/main.rt
 . "$work/whole"
 END
 holds "a source that changes during the build" changes
@@ -210,7 +223,7 @@ at_once() {
     run
     status=$?
     wait $! && [ "$status" -eq 0 ] && [ "$(calls)" -eq $((before + 1)) ] &&
-        cat "$work/said" "$work/other" | grep -q 'another run is proving the library' && cat "$work/said" "$work/other" | grep -q 'proved 4 of 4'
+        cat "$work/said" "$work/other" | grep -q 'another run is proving the library' && cat "$work/said" "$work/other" | grep -q 'proved: perchmellow_c'
 }
 if command -v flock >/dev/null 2>&1; then
     breaks <<END
@@ -271,7 +284,7 @@ holds "cargo after another build" linked_anew
 real=$(command -v rt)
 cat >"$work/bin/rt" <<END
 #!/bin/sh
-[ "\$1" != staticlib ] || exit 1
+[ "\$1" != lib ] || exit 1
 exec "$real" "\$@"
 END
 cd "$root" || exit 2

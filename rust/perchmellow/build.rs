@@ -1,15 +1,18 @@
 //! Links the proved library. `tools/staticlib` has rt prove and build it, and ends at once where it was built from the same files before,
 //! for whichever target folder.
 
-use std::path::Path;
+use std::path::{Path, PathBuf};
 use std::process::{exit, Command};
 
 fn main() {
     let here = std::env::var("CARGO_MANIFEST_DIR").expect("cargo names the package's folder");
     let root = Path::new(&here).ancestors().nth(2).expect("the package stands in rust/").to_path_buf();
     // The stamp changes whenever the library is built anew: by another kit, or from nothing.
-    for watched in ["crates", "crates.txt", "tools/staticlib", "target/staticlib/libperchmellow.stamp"] {
+    for watched in ["crates.txt", "tools/staticlib", "target/staticlib/libperchmellow.stamp"] {
         println!("cargo:rerun-if-changed={}", root.join(watched).display());
+    }
+    for watched in sources(&root.join("crates")) {
+        println!("cargo:rerun-if-changed={}", watched.display());
     }
 
     match Command::new(root.join("tools").join("staticlib")).current_dir(&root).output() {
@@ -24,7 +27,7 @@ fn main() {
             exit(1);
         }
     }
-    // Linked from cargo's own folder, where rt, run by hand, does not write.
+    // Linked from cargo's own folder, where no other run writes.
     let built = root.join("target").join("staticlib").join("libperchmellow.a");
     let library = std::env::var("OUT_DIR").expect("cargo names a folder for what is built");
     if let Err(why) = std::fs::copy(&built, Path::new(&library).join("libperchmellow.a")) {
@@ -34,6 +37,12 @@ fn main() {
     println!("cargo:rustc-link-search=native={library}");
     println!("cargo:rustc-link-lib=static=perchmellow");
     println!("cargo:rustc-env=PERCHMELLOW_PROVED_BY={}", proved_by());
+}
+
+/// What stands in the crates' folders, but for what rt makes there, which changes whenever rt runs.
+fn sources(crates: &Path) -> Vec<PathBuf> {
+    let entries = |folder: &Path| std::fs::read_dir(folder).into_iter().flatten().flatten().map(|entry| entry.path()).collect::<Vec<_>>();
+    entries(crates).iter().flat_map(|folder| entries(folder)).filter(|path| !path.ends_with("out")).collect()
 }
 
 /// The first line of what `rt version` says.

@@ -2,8 +2,8 @@
 
 use std::hint::black_box;
 
-use compare::{card_len, Calls, Plain, PlainOnBytes, Proved, OPTIMAL};
-use perchmellow::{CARD_HEAD_LEN, POSITIONS_MOST, POST_LEN};
+use compare::{Calls, Plain, PlainOnBytes, Proved};
+use perchmellow::{card_len, CARD_HEAD_LEN, OPTIMAL, POSITIONS_MOST, POST_LEN};
 
 use crate::clock::time;
 

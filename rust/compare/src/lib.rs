@@ -1,5 +1,5 @@
 //! The proved library and plain Rust side by side. [`Calls`] is one of them, and [`both`] makes a call of the two and sees that they
-//! agree; the tests and the benchmark are written over these. Functions and schedules are plain numbers here, for all of them alike.
+//! agree; the tests and the benchmark are written over these.
 
 pub mod both;
 mod cases;
@@ -7,24 +7,6 @@ mod random;
 
 pub use cases::cases;
 pub use random::Random;
-
-use std::convert::identity;
-
-use perchmellow::{Function, Schedule};
-
-pub const MD5: u32 = Function::MD5.0;
-pub const AES: u32 = Function::AES.0;
-pub const OPTIMAL: u32 = Schedule::OPTIMAL.0;
-
-/// Slots in a card's record, as the wrapper says.
-pub const fn slots(k: u32, schedule: u32) -> usize {
-    perchmellow::slots(k, Schedule(schedule))
-}
-
-/// Bytes in a card's record, as the wrapper says.
-pub const fn card_len(k: u32, schedule: u32) -> usize {
-    perchmellow::card_len(k, Schedule(schedule))
-}
 
 /// What a round answered: the position of the tick that it put out, if any, and its hashes.
 #[derive(Clone, Copy, Debug, PartialEq, Eq)]
@@ -60,24 +42,23 @@ pub struct Plain;
 /// Plain Rust whose AES keeps to bytes and the S-box.
 pub struct PlainOnBytes;
 
-/// The calls of a crate, and what makes of a number its function and its schedule.
 macro_rules! calls_of {
-    ($who:ident, $name:literal, $of:ident, $function:path, $schedule:path) => {
+    ($who:ident, $name:literal, $of:ident) => {
         impl Calls for $who {
             fn name(&self) -> &'static str {
                 $name
             }
 
             fn start(&self, function: u32, k: u32, schedule: u32, seed: &[u8], record: &mut [u8]) -> Result<(), u8> {
-                $of::start($function(function), k, $schedule(schedule), seed, record).map_err($of::Refusal::number)
+                $of::start(function, k, schedule, seed, record).map_err($of::Refusal::number)
             }
 
             fn start_ticks(&self, function: u32, ticks: u32, schedule: u32, seed: &[u8], record: &mut [u8]) -> Result<(), u8> {
-                $of::start_ticks($function(function), ticks, $schedule(schedule), seed, record).map_err($of::Refusal::number)
+                $of::start_ticks(function, ticks, schedule, seed, record).map_err($of::Refusal::number)
             }
 
             fn rebuild(&self, function: u32, k: u32, schedule: u32, round: u32, seed: &[u8], record: &mut [u8]) -> Result<(), u8> {
-                $of::rebuild($function(function), k, $schedule(schedule), round, seed, record).map_err($of::Refusal::number)
+                $of::rebuild(function, k, schedule, round, seed, record).map_err($of::Refusal::number)
             }
 
             fn round(&self, record: &mut [u8], out: &mut [u8]) -> Result<Turn, u8> {
@@ -89,22 +70,22 @@ macro_rules! calls_of {
             }
 
             fn positions(&self, k: u32, schedule: u32, round: u32, list: &mut [u32]) -> Result<Listed, u8> {
-                match $of::positions(k, $schedule(schedule), round, list) {
-                    Ok($of::Listed { held, hashes, .. }) => Ok(Listed { held, hashes }),
+                match $of::positions(k, schedule, round, list) {
+                    Ok($of::Listed { held, hashes }) => Ok(Listed { held, hashes }),
                     Err(why) => Err(why.number()),
                 }
             }
 
             fn anchor(&self, function: u32, k: u32, seed: &[u8], out: &mut [u8]) -> Result<(), u8> {
-                $of::anchor($function(function), k, seed, out).map_err($of::Refusal::number)
+                $of::anchor(function, k, seed, out).map_err($of::Refusal::number)
             }
 
             fn anchor_ticks(&self, function: u32, ticks: u32, seed: &[u8], out: &mut [u8]) -> Result<(), u8> {
-                $of::anchor_ticks($function(function), ticks, seed, out).map_err($of::Refusal::number)
+                $of::anchor_ticks(function, ticks, seed, out).map_err($of::Refusal::number)
             }
 
             fn enrol(&self, function: u32, k: u32, anchor: &[u8], record: &mut [u8]) -> Result<(), u8> {
-                $of::enrol($function(function), k, anchor, record).map_err($of::Refusal::number)
+                $of::enrol(function, k, anchor, record).map_err($of::Refusal::number)
             }
 
             fn offer(&self, record: &mut [u8], value: &[u8], gap: u32) -> Result<u32, u8> {
@@ -112,12 +93,12 @@ macro_rules! calls_of {
             }
 
             fn settle(&self, function: u32, k: u32, anchor: &[u8], last: &[u8], paid: u32) -> Result<bool, u8> {
-                $of::settle($function(function), k, anchor, last, paid).map_err($of::Refusal::number)
+                $of::settle(function, k, anchor, last, paid).map_err($of::Refusal::number)
             }
         }
     };
 }
 
-calls_of!(Proved, "proved", perchmellow, Function, Schedule);
-calls_of!(Plain, "plain", plain, identity, identity);
-calls_of!(PlainOnBytes, "plain on bytes", plain_on_bytes, identity, identity);
+calls_of!(Proved, "proved", perchmellow);
+calls_of!(Plain, "plain", plain);
+calls_of!(PlainOnBytes, "plain on bytes", plain_on_bytes);

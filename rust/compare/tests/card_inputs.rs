@@ -1,7 +1,7 @@
 //! Random, damaged, short and long inputs for the card's calls.
 
-use compare::{both, card_len, cases, Calls, Plain, Random};
-use perchmellow::{level, TICKS_MOST};
+use compare::{both, cases, Calls, Plain, Random};
+use perchmellow::{card_len, level, TICKS_MOST};
 
 /// The most hashes that a case may ask for, but for a few.
 const WORK: u32 = 2000;

@@ -1,8 +1,8 @@
 //! Whole cards, from start to the last tick, both functions, every schedule and every k up to 12: the two agree in every round, what a
 //! card holds are the elements of its chain at the listed positions, and two posts take its ticks, one of them with ticks missed.
 
-use compare::{both, card_len, slots, Random, Turn, OPTIMAL};
-use perchmellow::POST_LEN;
+use compare::{both, Random, Turn};
+use perchmellow::{card_len, slots, OPTIMAL, POST_LEN};
 
 const SEED: u64 = 0x7065_7263_6801;
 

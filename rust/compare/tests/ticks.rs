@@ -1,8 +1,8 @@
 //! Rebuilds beside cards that were run, cards of any number of ticks to their end, and every edge of the numbers that these calls take,
 //! with several refusals earned at once.
 
-use compare::{both, card_len, slots, Random, Turn, AES, MD5};
-use perchmellow::{level, POST_LEN, TICKS_MOST};
+use compare::{both, Random, Turn};
+use perchmellow::{card_len, level, slots, AES, MD5, POST_LEN, TICKS_MOST};
 
 const SEED: u64 = 0x7065_7263_6831;
 

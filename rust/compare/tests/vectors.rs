@@ -1,7 +1,7 @@
 //! Known values and the edges of docs/RULES.md, in both.
 
-use compare::{both, card_len, slots, Turn};
-use perchmellow::POST_LEN;
+use compare::{both, Turn};
+use perchmellow::{card_len, POST_LEN};
 
 /// A function, a value and the one after it. MD5 by Python's hashlib and by `openssl dgst -md5`; AES by OpenSSL 3.0, as
 /// `openssl enc -aes-128-ecb -nopad -K <value>` of 16 zero bytes.
@@ -187,8 +187,8 @@ fn gap_limits() {
 fn sizes() {
     for schedule in 0..=3 {
         for k in 0..=20 {
-            assert_eq!(slots(k, schedule), plain::slots(k, schedule));
-            assert_eq!(card_len(k, schedule), plain::card_len(k, schedule));
+            assert_eq!(perchmellow::slots(k, schedule), plain::slots(k, schedule));
+            assert_eq!(perchmellow::card_len(k, schedule), plain::card_len(k, schedule));
         }
     }
     for ticks in (0..=70_000).chain((1 << 20) - 2..(1 << 20) + 3).chain([1 << 21, 1 << 31, u32::MAX]) {

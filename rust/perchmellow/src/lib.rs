@@ -4,14 +4,14 @@
 //! any length may be lent. The numbers and layouts are those of `include/perchmellow.h`. The crate needs neither std nor a heap.
 //!
 //! ```
-//! use perchmellow::{anchor, card_len, enrol, offer, round, start, Function, Round, Schedule, POST_LEN, VALUE_LEN};
+//! use perchmellow::{anchor, card_len, enrol, offer, round, start, Round, OPTIMAL, POST_LEN, VALUE_LEN};
 //!
 //! let (k, seed) = (4, [7; VALUE_LEN]);
-//! let mut card = vec![0; card_len(k, Schedule::OPTIMAL)];
+//! let mut card = vec![0; card_len(k, OPTIMAL)];
 //! let (mut last, mut post, mut tick) = ([0; VALUE_LEN], [0; POST_LEN], [0; VALUE_LEN]);
-//! start(Function::MD5, k, Schedule::OPTIMAL, &seed, &mut card)?;
-//! anchor(Function::MD5, k, &seed, &mut last)?;
-//! enrol(Function::MD5, k, &last, &mut post)?;
+//! start(0, k, OPTIMAL, &seed, &mut card)?;
+//! anchor(0, k, &seed, &mut last)?;
+//! enrol(0, k, &last, &mut post)?;
 //! let mut credited = 0;
 //! while credited < 16 {
 //!     if let Round::Tick { .. } = round(&mut card, &mut tick)? {
@@ -25,14 +25,14 @@
 //! is a tick:
 //!
 //! ```
-//! use perchmellow::{anchor_ticks, card_len, enrol, level, offer, round, start_ticks, Function, Refusal, Schedule, POST_LEN, VALUE_LEN};
+//! use perchmellow::{anchor_ticks, card_len, enrol, level, offer, round, start_ticks, Refusal, MD5, OPTIMAL, POST_LEN, VALUE_LEN};
 //!
 //! let (k, seed) = (level(300)?, [7; VALUE_LEN]);
-//! let mut card = vec![0; card_len(k, Schedule::OPTIMAL)];
+//! let mut card = vec![0; card_len(k, OPTIMAL)];
 //! let (mut last, mut post, mut tick) = ([0; VALUE_LEN], [0; POST_LEN], [0; VALUE_LEN]);
-//! start_ticks(Function::MD5, 300, Schedule::OPTIMAL, &seed, &mut card)?;
-//! anchor_ticks(Function::MD5, 300, &seed, &mut last)?;
-//! enrol(Function::MD5, k, &last, &mut post)?;
+//! start_ticks(MD5, 300, OPTIMAL, &seed, &mut card)?;
+//! anchor_ticks(MD5, 300, &seed, &mut last)?;
+//! enrol(MD5, k, &last, &mut post)?;
 //! for _ in 0..300 {
 //!     round(&mut card, &mut tick)?;
 //!     offer(&mut post, &tick, 1)?;
@@ -66,69 +66,32 @@ pub const TICKS_MOST: u32 = 1 << K_MOST;
 /// The greatest gap limit.
 pub const GAP_MOST: u32 = 64;
 
-/// A one-way function, by its number. Every number may be given: the library refuses those that name none, in its order of refusals.
-///
-/// ```
-/// use perchmellow::{enrol, Function, Refusal, POST_LEN, VALUE_LEN};
-///
-/// assert_eq!(enrol(Function(7), 4, &[7; VALUE_LEN], &mut [0; POST_LEN]), Err(Refusal::UnknownFunction));
-/// ```
-#[derive(Clone, Copy, Debug, PartialEq, Eq, Hash)]
-pub struct Function(pub u32);
+/// Function 0: MD5 of the value.
+pub const MD5: u32 = 0;
+/// Function 1: AES-128 of the zero block under the value.
+pub const AES: u32 = 1;
 
-impl Function {
-    /// Function 0: MD5 of the value.
-    pub const MD5: Function = Function(0);
-    /// Function 1: AES-128 of the zero block under the value.
-    pub const AES: Function = Function(1);
-}
-
-/// A schedule, by its number. Every number may be given, as with a [`Function`].
-///
-/// ```
-/// use perchmellow::{positions, Schedule, POSITIONS_MOST};
-///
-/// positions(4, Schedule(3), 1, &mut [0; POSITIONS_MOST])?;
-/// # Ok::<(), perchmellow::Refusal>(())
-/// ```
-///
-/// It cannot change places with k unseen:
-///
-/// ```compile_fail,E0308
-/// use perchmellow::{positions, Schedule, POSITIONS_MOST};
-///
-/// positions(Schedule(3), 4, 1, &mut [0; POSITIONS_MOST])?;
-/// # Ok::<(), perchmellow::Refusal>(())
-/// ```
-#[derive(Clone, Copy, Debug, PartialEq, Eq, Hash)]
-pub struct Schedule(pub u32);
-
-impl Schedule {
-    /// Schedule 0: all the hashes in the last preparing round.
-    pub const RUSHING: Schedule = Schedule(0);
-    /// Schedule 1: one hash in each preparing round.
-    pub const SPEED_1: Schedule = Schedule(1);
-    /// Schedule 2: two hashes in each preparing round of the second half.
-    pub const SPEED_2: Schedule = Schedule(2);
-    /// Schedule 3: no paying round does more than half of k hashes, rounded up.
-    pub const OPTIMAL: Schedule = Schedule(3);
-}
+/// Schedule 0: all the hashes in the last preparing round.
+pub const RUSHING: u32 = 0;
+/// Schedule 1: one hash in each preparing round.
+pub const SPEED_1: u32 = 1;
+/// Schedule 2: two hashes in each preparing round of the second half.
+pub const SPEED_2: u32 = 2;
+/// Schedule 3: no paying round does more than half of k hashes, rounded up.
+pub const OPTIMAL: u32 = 3;
 
 /// Slots in the record of a card of 2^k ticks: k + 1, under speed-1 the larger of k + 1 and 2k - 2.
-pub const fn slots(k: u32, schedule: Schedule) -> usize {
+pub const fn slots(k: u32, schedule: u32) -> usize {
     let k = k as usize;
-    if schedule.0 == Schedule::SPEED_1.0 && k > 3 {
+    if schedule == SPEED_1 && k > 3 {
         2 * k - 2
     } else {
         k + 1
     }
 }
 
-/// Bytes in the record of a card of 2^k ticks; 0 where k is over [`K_MOST`], so that nothing is allocated for a card that is refused.
-pub const fn card_len(k: u32, schedule: Schedule) -> usize {
-    if k > K_MOST {
-        return 0;
-    }
+/// Bytes in the record of a card of 2^k ticks.
+pub const fn card_len(k: u32, schedule: u32) -> usize {
     CARD_HEAD_LEN + VALUE_LEN * slots(k, schedule)
 }
 
@@ -154,7 +117,6 @@ pub const fn level(ticks: u32) -> Result<u32, Refusal> {
 /// Why a call did nothing. Its number is the one said at the counter.
 #[derive(Clone, Copy, Debug, PartialEq, Eq, Hash)]
 #[repr(u8)]
-#[non_exhaustive]
 pub enum Refusal {
     /// The function is not 0 or 1.
     UnknownFunction = 1,
@@ -222,7 +184,6 @@ impl fmt::Display for Refusal {
 impl core::error::Error for Refusal {}
 
 /// What a round did.
-// Exhaustive: whoever passed over a kind could lose a tick, so a new one is to stop them.
 #[derive(Clone, Copy, Debug, PartialEq, Eq)]
 pub enum Round {
     /// A preparing round: nothing was put out.
@@ -230,7 +191,7 @@ pub enum Round {
         /// The hashes of the round.
         hashes: u32,
     },
-    /// A paying round: a tick stands in the out buffer.
+    /// A paying round: the chain's element at this position stands in the out buffer.
     Tick {
         /// The tick's place in the chain.
         position: u32,
@@ -239,9 +200,8 @@ pub enum Round {
     },
 }
 
-/// What is said of a position list.
+/// What a position list has: how many positions, and the hashes of the round.
 #[derive(Clone, Copy, Debug, PartialEq, Eq)]
-#[non_exhaustive]
 pub struct Listed {
     /// How many positions the list has.
     pub held: u32,
@@ -335,18 +295,18 @@ mod raw {
 /// - [`Refusal::TooManyTicks`],
 /// - [`Refusal::UnknownSchedule`] and
 /// - [`Refusal::WrongLength`]: the seed is not of 16 bytes, or the record is too short.
-pub fn start(function: Function, k: u32, schedule: Schedule, seed: &[u8], record: &mut [u8]) -> Result<(), Refusal> {
-    let word = unsafe { raw::perchmellow_start(function.0, k, schedule.0, seed.as_ptr(), seed.len(), record.as_mut_ptr(), record.len()) };
+pub fn start(function: u32, k: u32, schedule: u32, seed: &[u8], record: &mut [u8]) -> Result<(), Refusal> {
+    let word = unsafe { raw::perchmellow_start(function, k, schedule, seed.as_ptr(), seed.len(), record.as_mut_ptr(), record.len()) };
     Word(word).check().map(|_| ())
 }
 
 /// Lays out a card of so many ticks in the front of `record`, to begin with the round that pays the first of them.
 ///
 /// ```
-/// use perchmellow::{card_len, level, round, start_ticks, Function, Round, Schedule, VALUE_LEN};
+/// use perchmellow::{card_len, level, round, start_ticks, Round, AES, OPTIMAL, VALUE_LEN};
 ///
-/// let mut card = vec![0; card_len(level(300)?, Schedule::OPTIMAL)];
-/// start_ticks(Function::AES, 300, Schedule::OPTIMAL, &[7; VALUE_LEN], &mut card)?;
+/// let mut card = vec![0; card_len(level(300)?, OPTIMAL)];
+/// start_ticks(AES, 300, OPTIMAL, &[7; VALUE_LEN], &mut card)?;
 /// assert!(matches!(round(&mut card, &mut [0; VALUE_LEN])?, Round::Tick { position: 299, .. }));
 /// # Ok::<(), perchmellow::Refusal>(())
 /// ```
@@ -358,10 +318,9 @@ pub fn start(function: Function, k: u32, schedule: Schedule, seed: &[u8], record
 /// - [`Refusal::UnknownSchedule`],
 /// - [`Refusal::BadTicks`] and
 /// - [`Refusal::WrongLength`]: the seed is not of 16 bytes, or the record is too short.
-pub fn start_ticks(function: Function, ticks: u32, schedule: Schedule, seed: &[u8], record: &mut [u8]) -> Result<(), Refusal> {
-    let word = unsafe {
-        raw::perchmellow_start_ticks(function.0, ticks, schedule.0, seed.as_ptr(), seed.len(), record.as_mut_ptr(), record.len())
-    };
+pub fn start_ticks(function: u32, ticks: u32, schedule: u32, seed: &[u8], record: &mut [u8]) -> Result<(), Refusal> {
+    let word =
+        unsafe { raw::perchmellow_start_ticks(function, ticks, schedule, seed.as_ptr(), seed.len(), record.as_mut_ptr(), record.len()) };
     Word(word).check().map(|_| ())
 }
 
@@ -370,16 +329,16 @@ pub fn start_ticks(function: Function, ticks: u32, schedule: Schedule, seed: &[u
 /// on at round 2^(k+1) - n + p, k being its [`level`].
 ///
 /// ```
-/// use perchmellow::{card_len, rebuild, round, start, Function, Schedule, VALUE_LEN};
+/// use perchmellow::{card_len, rebuild, round, start, MD5, OPTIMAL, VALUE_LEN};
 ///
 /// let (k, seed) = (4, [7; VALUE_LEN]);
-/// let mut card = vec![0; card_len(k, Schedule::OPTIMAL)];
+/// let mut card = vec![0; card_len(k, OPTIMAL)];
 /// let mut lost = card.clone();
-/// start(Function::MD5, k, Schedule::OPTIMAL, &seed, &mut lost)?;
+/// start(MD5, k, OPTIMAL, &seed, &mut lost)?;
 /// for _ in 1..20 {
 ///     round(&mut lost, &mut [0; VALUE_LEN])?;
 /// }
-/// rebuild(Function::MD5, k, Schedule::OPTIMAL, 20, &seed, &mut card)?;
+/// rebuild(MD5, k, OPTIMAL, 20, &seed, &mut card)?;
 /// assert_eq!(card, lost);
 /// # Ok::<(), perchmellow::Refusal>(())
 /// ```
@@ -392,9 +351,9 @@ pub fn start_ticks(function: Function, ticks: u32, schedule: Schedule, seed: &[u
 /// - [`Refusal::UnknownSchedule`],
 /// - [`Refusal::BadRecord`]: the round is not from 1 to 2^(k+1), and
 /// - [`Refusal::WrongLength`]: the seed is not of 16 bytes, or the record is too short.
-pub fn rebuild(function: Function, k: u32, schedule: Schedule, round: u32, seed: &[u8], record: &mut [u8]) -> Result<(), Refusal> {
+pub fn rebuild(function: u32, k: u32, schedule: u32, round: u32, seed: &[u8], record: &mut [u8]) -> Result<(), Refusal> {
     let word =
-        unsafe { raw::perchmellow_rebuild(function.0, k, schedule.0, round, seed.as_ptr(), seed.len(), record.as_mut_ptr(), record.len()) };
+        unsafe { raw::perchmellow_rebuild(function, k, schedule, round, seed.as_ptr(), seed.len(), record.as_mut_ptr(), record.len()) };
     Word(word).check().map(|_| ())
 }
 
@@ -419,8 +378,7 @@ pub fn round(record: &mut [u8], out: &mut [u8]) -> Result<Round, Refusal> {
     Ok(if word.kind() { Round::Tick { position, hashes } } else { Round::Quiet { hashes } })
 }
 
-/// Writes the positions that a card holds before a round to the front of `list`, in falling order. [`POSITIONS_MOST`] entries are always
-/// enough.
+/// Writes the positions that a card holds before a round to the front of `list`, in falling order.
 ///
 /// # Errors
 ///
@@ -429,8 +387,8 @@ pub fn round(record: &mut [u8], out: &mut [u8]) -> Result<Round, Refusal> {
 /// - [`Refusal::UnknownSchedule`],
 /// - [`Refusal::BadRecord`]: the round is not from 1 to 2^(k+1), and
 /// - [`Refusal::WrongLength`]: the list has fewer entries than there are positions.
-pub fn positions(k: u32, schedule: Schedule, round: u32, list: &mut [u32]) -> Result<Listed, Refusal> {
-    let word = Word(unsafe { raw::perchmellow_positions(k, schedule.0, round, list.as_mut_ptr(), list.len()) }).check()?;
+pub fn positions(k: u32, schedule: u32, round: u32, list: &mut [u32]) -> Result<Listed, Refusal> {
+    let word = Word(unsafe { raw::perchmellow_positions(k, schedule, round, list.as_mut_ptr(), list.len()) }).check()?;
     Ok(Listed { held: word.first(), hashes: word.second() })
 }
 
@@ -442,19 +400,19 @@ pub fn positions(k: u32, schedule: Schedule, round: u32, list: &mut [u32]) -> Re
 /// - [`Refusal::UnknownFunction`],
 /// - [`Refusal::TooManyTicks`] and
 /// - [`Refusal::WrongLength`]: the seed is not of 16 bytes, or the out buffer has fewer.
-pub fn anchor(function: Function, k: u32, seed: &[u8], out: &mut [u8]) -> Result<(), Refusal> {
-    let word = unsafe { raw::perchmellow_anchor(function.0, k, seed.as_ptr(), seed.len(), out.as_mut_ptr(), out.len()) };
+pub fn anchor(function: u32, k: u32, seed: &[u8], out: &mut [u8]) -> Result<(), Refusal> {
+    let word = unsafe { raw::perchmellow_anchor(function, k, seed.as_ptr(), seed.len(), out.as_mut_ptr(), out.len()) };
     Word(word).check().map(|_| ())
 }
 
 /// Writes the anchor of a card of so many ticks to the front of `out`. A post is enrolled with it and the card's [`level`].
 ///
 /// ```
-/// use perchmellow::{anchor, anchor_ticks, Function, VALUE_LEN};
+/// use perchmellow::{anchor, anchor_ticks, MD5, VALUE_LEN};
 ///
 /// let (seed, mut by_k, mut by_ticks) = ([7; VALUE_LEN], [0; VALUE_LEN], [0; VALUE_LEN]);
-/// anchor(Function::MD5, 4, &seed, &mut by_k)?;
-/// anchor_ticks(Function::MD5, 16, &seed, &mut by_ticks)?;
+/// anchor(MD5, 4, &seed, &mut by_k)?;
+/// anchor_ticks(MD5, 16, &seed, &mut by_ticks)?;
 /// assert_eq!(by_k, by_ticks);
 /// # Ok::<(), perchmellow::Refusal>(())
 /// ```
@@ -465,8 +423,8 @@ pub fn anchor(function: Function, k: u32, seed: &[u8], out: &mut [u8]) -> Result
 /// - [`Refusal::UnknownFunction`],
 /// - [`Refusal::BadTicks`] and
 /// - [`Refusal::WrongLength`]: the seed is not of 16 bytes, or the out buffer has fewer.
-pub fn anchor_ticks(function: Function, ticks: u32, seed: &[u8], out: &mut [u8]) -> Result<(), Refusal> {
-    let word = unsafe { raw::perchmellow_anchor_ticks(function.0, ticks, seed.as_ptr(), seed.len(), out.as_mut_ptr(), out.len()) };
+pub fn anchor_ticks(function: u32, ticks: u32, seed: &[u8], out: &mut [u8]) -> Result<(), Refusal> {
+    let word = unsafe { raw::perchmellow_anchor_ticks(function, ticks, seed.as_ptr(), seed.len(), out.as_mut_ptr(), out.len()) };
     Word(word).check().map(|_| ())
 }
 
@@ -478,12 +436,12 @@ pub fn anchor_ticks(function: Function, ticks: u32, seed: &[u8], out: &mut [u8])
 /// - [`Refusal::UnknownFunction`],
 /// - [`Refusal::TooManyTicks`] and
 /// - [`Refusal::WrongLength`]: the anchor is not of 16 bytes, or the record has under [`POST_LEN`].
-pub fn enrol(function: Function, k: u32, anchor: &[u8], record: &mut [u8]) -> Result<(), Refusal> {
-    let word = unsafe { raw::perchmellow_enrol(function.0, k, anchor.as_ptr(), anchor.len(), record.as_mut_ptr(), record.len()) };
+pub fn enrol(function: u32, k: u32, anchor: &[u8], record: &mut [u8]) -> Result<(), Refusal> {
+    let word = unsafe { raw::perchmellow_enrol(function, k, anchor.as_ptr(), anchor.len(), record.as_mut_ptr(), record.len()) };
     Word(word).check().map(|_| ())
 }
 
-/// Offers a value to a post, and answers the ticks credited: as many steps lead from it to the value held, at most `gap`.
+/// Offers a value to a post, and answers the ticks credited.
 ///
 /// # Errors
 ///
@@ -511,7 +469,7 @@ pub fn offer(record: &mut [u8], value: &[u8], gap: u32) -> Result<u32, Refusal> 
 /// - [`Refusal::TooManyTicks`],
 /// - [`Refusal::WrongLength`]: the anchor or the last value is not of 16 bytes, and
 /// - [`Refusal::BadRecord`]: more are paid than 2^k.
-pub fn settle(function: Function, k: u32, anchor: &[u8], last: &[u8], paid: u32) -> Result<bool, Refusal> {
-    let word = unsafe { raw::perchmellow_settle(function.0, k, anchor.as_ptr(), anchor.len(), last.as_ptr(), last.len(), paid) };
+pub fn settle(function: u32, k: u32, anchor: &[u8], last: &[u8], paid: u32) -> Result<bool, Refusal> {
+    let word = unsafe { raw::perchmellow_settle(function, k, anchor.as_ptr(), anchor.len(), last.as_ptr(), last.len(), paid) };
     Word(word).check().map(|word| word.kind())
 }

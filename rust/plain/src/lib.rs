@@ -1,6 +1,5 @@
 //! A card and a post in plain Rust, written from docs/RULES.md and without a proof: the measure for the proved library, in its answers
-//! and in its speed. The calls have the names and the arguments of the crate `perchmellow`, functions and schedules as plain numbers, and
-//! nothing else of it.
+//! and in its speed. The calls have the names and the arguments of the crate `perchmellow`, and nothing else of it.
 //!
 //! Safe code and std only, for any processor: no intrinsics, so no AES instructions.
 

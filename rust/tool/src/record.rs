@@ -2,10 +2,10 @@
 //!
 //! The library alone decides what is refused. What is read here says where the reason stands.
 
-use crate::names::{FUNCTIONS, SCHEDULES};
+use crate::args::{FUNCTIONS, SCHEDULES};
 use crate::run::held;
-use crate::words::{count, hex};
-use perchmellow::{card_len, offer, round, Refusal, Schedule, CARD_HEAD_LEN, K_MOST, POST_LEN, VALUE_LEN};
+use crate::say::{count, hex};
+use perchmellow::{card_len, offer, round, Refusal, CARD_HEAD_LEN, K_MOST, POST_LEN, VALUE_LEN};
 
 #[derive(Clone, Copy, PartialEq, Eq)]
 pub enum Kind {
@@ -37,17 +37,8 @@ impl Kind {
         }
     }
 
-    /// The mark, as it is said.
-    fn mark(self) -> String {
-        format!("{}, the mark of a {} record", spaced(&MARKS[self as usize].1), self.name())
-    }
-
-    /// The bytes that have to be there before the mark is judged.
-    fn head(self) -> (usize, &'static str) {
-        match self {
-            Kind::Card => (CARD_HEAD_LEN, "the head of a card record"),
-            Kind::Post => (POST_LEN, "a post record"),
-        }
+    fn mark(self) -> [u8; 2] {
+        MARKS[self as usize].1
     }
 
     /// What the library says to the next call on a copy of the record: a refusal, or nothing against it.
@@ -89,12 +80,17 @@ impl Read {
     pub fn of(kind: Kind, record: &[u8]) -> Read {
         let mut read = Read::default();
         match kind {
-            _ if Kind::of(record) != Some(kind) => read.unmarked(kind, record),
             Kind::Card => read.card(record),
             Kind::Post => read.post(record),
         }
         read.lines.retain(|line| line.from < record.len() || line.fault.is_some());
         read
+    }
+
+    /// Only whether mark and length are right: all that is said of a file that may be no record.
+    pub fn outside(mut self) -> Read {
+        self.lines.retain(|line| line.to == 2 || line.fault == Some(Refusal::WrongLength));
+        Read { lines: self.lines, ..Read::default() }
     }
 
     /// The bytes that a refusal is about.
@@ -131,18 +127,15 @@ impl Read {
         self.fault_line(turn, Refusal::WrongLength, record.len(), full, format!("missing: the file has {has}, and {what} takes {full}"));
     }
 
-    /// A record cut short of what is read before its mark.
-    fn no_head(&mut self, kind: Kind, record: &[u8]) {
-        let (full, what) = kind.head();
-        self.short(record, full, 0, what);
-    }
-
-    /// A file without the mark is not read on, and no byte of it is repeated: it may be no record at all, but a seed.
-    fn unmarked(&mut self, kind: Kind, record: &[u8]) {
-        match record.len() < kind.head().0 {
-            true => self.no_head(kind, record),
-            false => self.fault_line(1, Refusal::BadRecord, 0, 2, format!("not {}", kind.mark())),
+    /// What stands in the mark's place is not repeated: a file without a mark may be no record at all, but a seed.
+    fn mark(&mut self, kind: Kind, record: &[u8]) {
+        if record.len() < 2 {
+            return;
         }
+        let good = Kind::of(record) == Some(kind);
+        let (mark, name) = (spaced(&kind.mark()), kind.name());
+        let words = if good { format!("{mark}, the mark of a {name} record") } else { format!("not {mark}, the mark of a {name} record") };
+        self.judge(good, 1, Refusal::BadRecord, 0, 2, words);
     }
 
     /// A byte that is a number with a name.
@@ -180,17 +173,17 @@ impl Read {
     }
 
     fn card(&mut self, record: &[u8]) {
-        self.line(0, 2, Kind::Card.mark());
+        self.mark(Kind::Card, record);
         self.function(record);
         self.schedule = self.named(record, 3, "schedule", &SCHEDULES, 4, Refusal::UnknownSchedule);
         self.k(record, 4);
         self.zeros(record, 5, 8);
         let Some(head) = record.get(..CARD_HEAD_LEN) else {
-            return self.no_head(Kind::Card, record);
+            return self.short(record, CARD_HEAD_LEN, 0, "the head of a card record");
         };
         let number = u32::from_le_bytes([head[8], head[9], head[10], head[11]]);
         self.round = Some(number);
-        let (k, schedule) = (u32::from(head[4]), Schedule(head[3].into()));
+        let (k, schedule) = (u32::from(head[4]), u32::from(head[3]));
         if k > K_MOST {
             self.line(8, 12, format!("next round {number}; with such a k it cannot be told whether there is one"));
             return self.zeros(record, 12, 16);
@@ -211,7 +204,7 @@ impl Read {
         self.zeros(record, 12, 16);
         if let Ok(held) = held(k, schedule, number) {
             self.slots(record, card_len(k, schedule), &held);
-        } else if schedule.0 < SCHEDULES.len() as u32 && record.len() < card_len(k, schedule) {
+        } else if schedule < SCHEDULES.len() as u32 && record.len() < card_len(k, schedule) {
             self.short(record, card_len(k, schedule), 5, "the record of such a card");
         }
     }
@@ -242,7 +235,7 @@ impl Read {
     }
 
     fn post(&mut self, record: &[u8]) {
-        self.line(0, 2, Kind::Post.mark());
+        self.mark(Kind::Post, record);
         self.function(record);
         self.k(record, 3);
         if let Some(bytes) = record.get(4..8) {
@@ -257,12 +250,12 @@ impl Read {
             }
         }
         if let Some(anchor) = record.get(8..24) {
-            self.line(8, 24, format!("the anchor, {}", hex(anchor)));
+            self.line(8, 24, format!("the anchor, {}", public(record, anchor)));
         }
         let Some(held) = record.get(24..POST_LEN) else {
-            return self.no_head(Kind::Post, record);
+            return self.short(record, POST_LEN, 0, "a post record");
         };
-        let words = format!("the value held, {}", hex(held));
+        let words = format!("the value held, {}", public(record, held));
         match self.paid {
             Some(0) if held == &record[8..24] => self.line(24, 40, format!("{words}: the anchor, as it is with 0 paid")),
             Some(0) => self.fault_line(6, Refusal::BadRecord, 24, 40, format!("{words}, where with 0 paid it is the anchor")),
@@ -286,6 +279,14 @@ pub fn bytes_named(from: usize, to: usize) -> String {
     match to - from {
         0 | 1 => format!("byte {from}"),
         _ => format!("bytes {from} to {}", to - 1),
+    }
+}
+
+/// A value of a post record, which has been put out. Under another mark the same bytes may be a card's slots.
+fn public(record: &[u8], value: &[u8]) -> String {
+    match Kind::of(record) {
+        Some(Kind::Post) => hex(value),
+        _ => "not shown as the mark is not a post's".into(),
     }
 }
 

@@ -1,6 +1,6 @@
 //! A whole run of a card, round by round: what a listing, a picture and the demo are drawn from.
 
-use perchmellow::{card_len, positions, round, start, Function, Refusal, Round, Schedule, POSITIONS_MOST, VALUE_LEN};
+use perchmellow::{card_len, positions, round, start, Refusal, Round, POSITIONS_MOST, VALUE_LEN};
 
 /// One round, as a real card ran it.
 pub struct Step {
@@ -16,14 +16,14 @@ pub struct Step {
 }
 
 /// The positions held before a round.
-pub fn held(k: u32, schedule: Schedule, round: u32) -> Result<Vec<u32>, Refusal> {
+pub fn held(k: u32, schedule: u32, round: u32) -> Result<Vec<u32>, Refusal> {
     let mut list = [0; POSITIONS_MOST];
     let listed = positions(k, schedule, round, &mut list)?;
     Ok(list[..listed.held as usize].to_vec())
 }
 
 /// Runs a card from start to end.
-pub fn run(function: Function, k: u32, schedule: Schedule, seed: &[u8]) -> Result<Vec<Step>, Refusal> {
+pub fn run(function: u32, k: u32, schedule: u32, seed: &[u8]) -> Result<Vec<Step>, Refusal> {
     let mut card = vec![0; card_len(k, schedule)];
     start(function, k, schedule, seed, &mut card)?;
     let mut steps = Vec::new();
@@ -56,7 +56,7 @@ mod tests {
     fn arrows_are_as_long_as_the_hashes() {
         for k in 0..=10 {
             for schedule in 0..4 {
-                for step in run(Function::MD5, k, Schedule(schedule), &[3; VALUE_LEN]).unwrap() {
+                for step in run(0, k, schedule, &[3; VALUE_LEN]).unwrap() {
                     let drawn: u32 = step.arrows.iter().map(|(from, to)| to - from).sum();
                     assert_eq!(drawn, step.hashes, "k {k}, schedule {schedule}, round {}", step.round);
                 }

@@ -2,7 +2,7 @@
 
 #![no_std]
 
-use perchmellow::{round, start, Function, Refusal, Round, Schedule, CARD_LEN_MOST, VALUE_LEN};
+use perchmellow::{round, start, Refusal, Round, AES, CARD_LEN_MOST, OPTIMAL, VALUE_LEN};
 
 /// std has one, and there may be only one.
 #[panic_handler]
@@ -12,7 +12,7 @@ fn stop(_: &core::panic::PanicInfo) -> ! {
 
 pub fn first_tick(k: u32, seed: &[u8; VALUE_LEN]) -> Result<[u8; VALUE_LEN], Refusal> {
     let (mut card, mut tick) = ([0; CARD_LEN_MOST], [0; VALUE_LEN]);
-    start(Function::AES, k, Schedule::OPTIMAL, seed, &mut card)?;
+    start(AES, k, OPTIMAL, seed, &mut card)?;
     while let Round::Quiet { .. } = round(&mut card, &mut tick)? {}
     Ok(tick)
 }

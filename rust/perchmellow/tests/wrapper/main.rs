@@ -1,4 +1,4 @@
-//! What the wrapper adds to the library: its types, its sentences and its pages, and that it does without std.
+//! What the wrapper adds to the library: its numbers, its sentences and its pages, and that it does without std.
 
 mod bare;
 mod header;

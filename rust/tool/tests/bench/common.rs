@@ -2,7 +2,6 @@
 
 use crate::json::{self, Value};
 use std::fs;
-use std::os::unix::fs::PermissionsExt;
 use std::path::PathBuf;
 use std::process::{Command, Output, Stdio};
 use std::sync::atomic::{AtomicU32, Ordering};
@@ -41,7 +40,7 @@ impl Folder {
 
     fn with(function: &str, size: [&str; 2], schedule: &str) -> Folder {
         let folder = Folder::new();
-        folder.write_private("seed.hex", format!("{SEED}\n"));
+        folder.write("seed.hex", format!("{SEED}\n"));
         let common = ["--function", function, size[0], size[1]];
         folder.good(&[&["start", "card.pm", "--schedule", schedule, "--seed-file", "seed.hex"], &common[..]].concat());
         folder.good(&[&["anchor", "--out", "anchor.hex", "--seed-file", "seed.hex"], &common[..]].concat());
@@ -59,12 +58,6 @@ impl Folder {
 
     pub fn write(&self, name: &str, bytes: impl AsRef<[u8]>) {
         fs::write(self.path(name), bytes).unwrap();
-    }
-
-    /// A file for its owner alone, as a seed's should be.
-    pub fn write_private(&self, name: &str, bytes: impl AsRef<[u8]>) {
-        self.write(name, bytes);
-        fs::set_permissions(self.path(name), fs::Permissions::from_mode(0o600)).unwrap();
     }
 
     /// Every name in the folder, the hidden ones too.
@@ -116,11 +109,6 @@ impl Folder {
         assert_eq!(words.status, told.status, "{args:?}");
         (words.status, words.err)
     }
-}
-
-/// Numbers of an answer, by their names.
-pub fn numbers(told: &Value, names: &[&str]) -> Vec<u64> {
-    names.iter().map(|name| told[name].number()).collect()
 }
 
 impl Drop for Folder {

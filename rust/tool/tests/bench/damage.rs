@@ -1,7 +1,7 @@
 //! A record with one bit wrong, at every bit: what `show` says is what the call says, and a refusal touches nothing.
 
-use crate::common::{Folder, SEED};
-use crate::json::{self, Value};
+use crate::common::Folder;
+use crate::json::Value;
 
 /// The refusal of a status, if it is one.
 fn refusal(status: i32) -> Value {
@@ -12,52 +12,29 @@ fn refusal(status: i32) -> Value {
     }
 }
 
-/// The kind that a record's mark names.
-fn marked(record: &[u8]) -> Option<&'static str> {
-    match record {
-        [0xb7, 1, ..] => Some("card"),
-        [0xb7, 2, ..] => Some("post"),
-        _ => None,
-    }
-}
-
-/// What a call says of a record; then `show` says the same, names a place that earns it, and neither touches a refused record. Of a record
-/// whose mark is damaged `show` says that it has none, and what a card's call says.
+/// What a call says of a record; then `show` says the same, names a place that earns it, and neither touches a refused record.
 fn both_say(folder: &Folder, record: &[u8], kind: &str, case: &str) -> Value {
     folder.write("bad.pm", record);
-    let told = folder.answer(&["show", "bad.pm"]);
+    let told = folder.answer(&["show", "bad.pm", "--as", kind]);
     assert_eq!(folder.read("bad.pm"), record, "{case}: show only looks");
-    let call = |kind: &str| match kind {
+    // An offer of a strange value is refused with 9 where the record is good, and `show` says nothing against that.
+    let ran = match kind {
         "card" => folder.run(&["round", "bad.pm"]),
         _ => folder.run(&["offer", "bad.pm", "--value-file", "seed.hex", "--gap", "1"]),
     };
-    let ran = call(kind);
-    // An offer of a strange value is refused with 9 where the record is good, and `show` says nothing against that.
     let said = match refusal(ran.status) {
         Value::Number(9) => Value::Null,
         said => said,
     };
-    if said != Value::Null {
-        assert_eq!(folder.read("bad.pm"), record, "{case}: a refused call touches nothing");
-    }
-    match marked(record) {
-        Some(named) if named == kind => {
-            assert_eq!((told["kind"].text(), &told["refusal"]), (kind, &said), "{case}");
-            let fault = &told["fault"];
-            match &said {
-                Value::Null => assert_eq!(*fault, Value::Null, "{case}"),
-                number => {
-                    assert_eq!(fault["refusal"], *number, "{case}");
-                    let words = fault["words"].text();
-                    assert!(ran.err.contains(words), "{case}: {words}, {}", ran.err);
-                }
-            }
-        }
-        Some(other) => assert!(ran.err.contains(&format!("the file is a {other}'s, by its mark")), "{case}: {}", ran.err),
-        None => {
-            assert_eq!((&told["kind"], told["refused_by"].text()), (&Value::Null, "round"), "{case}");
-            assert_eq!(told["refusal"], refusal(call("card").status), "{case}");
-            assert_eq!(told["bytes"].list(), [told["fault"].clone()], "{case}");
+    assert_eq!(told["refusal"], said, "{case}");
+    let fault = &told["fault"];
+    match &said {
+        Value::Null => assert_eq!(*fault, Value::Null, "{case}"),
+        number => {
+            assert_eq!(fault["refusal"], *number, "{case}");
+            let words = fault["words"].text();
+            assert!(ran.err.contains(words), "{case}: {words}, {}", ran.err);
+            assert_eq!(folder.read("bad.pm"), record, "{case}: a refused call touches nothing");
         }
     }
     said
@@ -70,9 +47,14 @@ fn every_bit(folder: &Folder, name: &str, kind: &str) -> [u32; 10] {
     for bit in 0..8 * whole.len() {
         let mut record = whole.clone();
         record[bit / 8] ^= 1 << (bit % 8);
-        assert_eq!(marked(&record).is_none(), bit < 16, "no bit makes one kind's mark of the other's");
         let said = both_say(folder, &record, kind, &format!("bit {bit} of {name}"));
         seen[if let Value::Number(number) = said { number as usize } else { 0 }] += 1;
+        // Without being told, `show` finds the kind by the mark or by the length, and stops at a mark that is wrong.
+        if bit < 16 {
+            let told = folder.answer(&["show", "bad.pm"]);
+            assert_eq!((told["kind"].text(), told["refusal"].number(), told["bytes"].list().len()), (kind, 5, 1));
+            assert_eq!((told["fault"]["from"].number(), told["fault"]["to"].number()), (0, 1));
+        }
     }
     seen
 }
@@ -176,77 +158,18 @@ fn strange_values_are_told() {
     }
 }
 
-/// Nothing of a file without a mark is printed: what is said of it is said of every other file of its length.
 #[test]
-fn a_file_without_a_mark_is_not_shown() {
+fn a_file_without_a_mark_is_read_as_asked() {
     let folder = Folder::with_card("md5", 2, "optimal");
-    let raw: Vec<u8> = (0..16).map(|at| u8::from_str_radix(&SEED[2 * at..2 * at + 2], 16).unwrap()).collect();
-    let fillings: [&[u8]; 5] = [SEED.as_bytes(), &raw, b"some words ", &[0xb7, 0, 1, 2, 3, 4, 5], &[0]];
-    let calls: [&[&str]; 6] = [
-        &["show", "file"],
-        &["round", "file"],
-        &["offer", "file", "--value-file", "seed.hex"],
-        &["settle", "file"],
-        &["ride", "file", "post.pm"],
-        &["ride", "card.pm", "file"],
-    ];
-    for length in [0, 1, 2, 3, 8, 15, 16, 33, 39, 40, 96, 1000] {
-        let said = |filling: &[u8]| {
-            folder.write("file", filling.iter().copied().cycle().take(length).collect::<Vec<_>>());
-            let runs = calls.iter().flat_map(|call| [folder.run(call), folder.run(&[call, &["--json"][..]].concat())]);
-            runs.map(|ran| (ran.status, ran.out, ran.err)).collect::<Vec<_>>()
-        };
-        let first = said(fillings[0]);
-        for filling in &fillings[1..] {
-            assert_eq!(said(filling), first, "{length} bytes of {filling:02x?}");
-        }
-        let (round, offer) = (if length < 16 { 4 } else { 5 }, if length < 40 { 4 } else { 5 });
-        let refused = match round == offer {
-            true => format!("round and offer refuse it with {round}"),
-            false => format!("round refuses it with {round}, and offer with {offer}"),
-        };
-        let words = format!(
-            "file: {length} {} without a record's mark, so nothing of it is shown; {refused}.\nLook at the name. If it was a record it is \
-             damaged: take a copy kept of it, or for a card rebuild it from its seed.\n",
-            if length == 1 { "byte" } else { "bytes" }
-        );
-        assert_eq!(first[0], (0, words, String::new()));
-        assert_eq!([2, 4, 6, 8, 10].map(|at| first[at].0 - 10), [round, offer, offer, round, offer], "{length} bytes");
-        let told = folder.answer(&["show", "file"]);
-        let fields = ["kind", "function", "k", "one_chain"].map(|name| &told[name]);
-        assert_eq!(fields, [&Value::Null; 4]);
-        assert_eq!((told["length"].number(), told["refusal"].number()), (length as u64, round as u64));
-    }
-    assert_eq!(folder.trouble(&["show", "file", "--as", "card"]).0, 2);
-}
-
-/// A post's file where a card's is wanted, and the other way round.
-#[test]
-fn a_record_of_the_other_kind_is_told() {
-    // The record of a card of one tick is shorter than a post's.
-    for k in [0, 3] {
-        let folder = Folder::with_card("md5", k, "optimal");
-        folder.write("other.pm", folder.read("card.pm"));
-        let (card, post) = (folder.read("card.pm"), folder.read("post.pm"));
-        let short = if card.len() < post.len() { 4 } else { 5 };
-        let calls: [(&[&str], &str, &str, u64); 6] = [
-            (&["round", "post.pm"], "round", "card", 5),
-            (&["ride", "post.pm", "card.pm"], "round", "card", 5),
-            (&["ride", "post.pm", "card.pm", "--save"], "round", "card", 5),
-            (&["ride", "card.pm", "other.pm"], "offer", "post", short),
-            (&["offer", "card.pm", "--value-file", "anchor.hex"], "offer", "post", short),
-            (&["settle", "card.pm"], "settle", "post", short),
-        ];
-        for (args, call, wanted, number) in calls {
-            let found = format!("the file is a {}'s, by its mark", if wanted == "card" { "post" } else { "card" });
-            let remedy = format!("give the {wanted}'s file; 'perchmellow show' tells them apart");
-            let (status, words) = folder.trouble(args);
-            assert_eq!(status as u64, 10 + number, "{args:?}: {words}");
-            assert!(words.ends_with(&format!(". Found: {found}. To do: {remedy}.\n")), "{args:?}: {words}");
-            let told = json::parse(&folder.run(&[args, &["--json"]].concat()).err);
-            let said = ["call", "found", "remedy"].map(|name| told[name].text());
-            assert_eq!((said, told["refusal"].number()), ([call, &found, &remedy], number), "{args:?}");
-        }
-        assert_eq!((folder.read("card.pm"), folder.read("post.pm")), (card, post));
-    }
+    folder.write("words", "some words that are no record at all, and long enough to be one");
+    let told = folder.answer(&["show", "words"]);
+    assert_eq!((told["kind"].text(), told["refused_by"].text(), told["refusal"].number()), ("card", "round", 5));
+    assert!(folder.good(&["show", "words"]).ends_with("'--as card' or '--as post' does.\n"));
+    let told = folder.answer(&["show", "words", "--as", "post"]);
+    assert_eq!((told["kind"].text(), told["refused_by"].text(), told["refusal"].number()), ("post", "offer", 5));
+    let told = folder.answer(&["show", "card.pm", "--as", "post"]);
+    assert_eq!((told["refusal"].number(), told["bytes"].list().len() > 4), (5, true));
+    let told = folder.answer(&["show", "seed.hex", "--as", "post"]);
+    assert_eq!((told["refusal"].number(), told["function"].clone()), (4, Value::Null));
+    assert_eq!(folder.answer(&["show", "post.pm"])["kind"].text(), "post");
 }

@@ -4,11 +4,11 @@ use crate::common::{Folder, SEED, TOOL};
 use crate::json::Value;
 use std::collections::BTreeSet;
 use std::fs::{self, File};
-use std::os::unix::fs::{chown, symlink, MetadataExt, PermissionsExt};
+use std::os::unix::fs::{symlink, MetadataExt, PermissionsExt};
 use std::os::unix::process::CommandExt;
 use std::process::{Command, Stdio};
 use std::thread;
-use std::time::{Duration, Instant};
+use std::time::Instant;
 
 /// What a file is known by: its bytes, and that it is the very same file.
 fn seal(folder: &Folder, name: &str) -> (Vec<u8>, u64, i64, i64) {
@@ -31,7 +31,8 @@ fn a_record_cut_short_is_refused_with_4_at_every_length() {
                 assert_eq!(status, 14, "{name} of {len} bytes: {words}");
                 assert!(words.contains(&format!("the file has {len} byte")), "{name} of {len} bytes: {words}");
                 assert_eq!(seal(&folder, "cut.pm"), before);
-                let told = folder.answer(&["show", "cut.pm"]);
+                let kind = if name == "card.pm" { "card" } else { "post" };
+                let told = folder.answer(&["show", "cut.pm", "--as", kind]);
                 assert_eq!(told["refusal"].number(), 4, "{name} of {len} bytes");
                 assert_eq!(told["fault"]["from"].number(), len as u64);
             }
@@ -54,25 +55,25 @@ fn bytes_behind_a_record_stay() {
 fn a_file_in_use_is_left_alone() {
     let folder = Folder::with_card("md5", 3, "optimal");
     let (card, post) = (seal(&folder, "card.pm"), seal(&folder, "post.pm"));
-    // A record that another run works on, and the new file of a start that another run makes.
-    folder.write(".new.pm.new", "half a rec");
-    let locks = ["card.pm", "post.pm", ".new.pm.new"].map(|name| {
+    let locks = [".card.pm.lock", ".post.pm.lock", ".new.pm.lock"].map(|name| {
+        folder.write(name, "4711");
         let lock = File::open(folder.path(name)).unwrap();
         lock.try_lock().unwrap();
         lock
     });
     let start = ["start", "new.pm", "--function", "md5", "--k", "2", "--seed-file", "seed.hex"];
-    let calls: [&[&str]; 5] = [
+    let calls: [&[&str]; 6] = [
         &["rebuild", "new.pm", "--function", "md5", "--k", "2", "--round", "4", "--seed-file", "seed.hex"],
         &["round", "card.pm"],
         &["offer", "post.pm", "--value-file", "seed.hex"],
         &["ride", "card.pm", "post.pm", "--save"],
+        &["anchor", "--function", "md5", "--k", "2", "--seed-file", "seed.hex", "--out", "card.pm"],
         &start,
     ];
     for call in calls {
         let (status, words) = folder.trouble(call);
         assert_eq!(status, 4, "{call:?}: {words}");
-        assert!(words.contains("in use by another run") && words.contains("--wait"), "{words}");
+        assert!(words.contains("process 4711"), "{words}");
     }
     assert_eq!((seal(&folder, "card.pm"), seal(&folder, "post.pm")), (card, post));
     folder.good(&["show", "card.pm"]);
@@ -80,26 +81,7 @@ fn a_file_in_use_is_left_alone() {
     locks.iter().for_each(|lock| lock.unlock().unwrap());
     folder.good(&["round", "card.pm"]);
     folder.good(&start);
-    assert_eq!(folder.names(), ["anchor.hex", "card.pm", "new.pm", "post.pm", "seed.hex"]);
-}
-
-#[test]
-fn a_file_in_use_is_waited_for() {
-    let folder = Folder::with_card("md5", 3, "optimal");
-    let lock = File::open(folder.path("card.pm")).unwrap();
-    lock.try_lock().unwrap();
-    let begun = Instant::now();
-    let ran = folder.run(&["round", "card.pm", "--wait", "1"]);
-    assert_eq!((ran.status, begun.elapsed().as_secs() >= 1), (4, true), "{}", ran.err);
-    assert!(ran.err.contains("waited for 1 s"), "{}", ran.err);
-    thread::scope(|scope| {
-        scope.spawn(|| {
-            thread::sleep(Duration::from_millis(300));
-            lock.unlock().unwrap();
-        });
-        assert_eq!(folder.good(&["round", "card.pm", "--wait", "60"]), "round 1: quiet, 0 hashes\n");
-    });
-    assert!(begun.elapsed().as_secs() < 30);
+    assert!(!folder.names().contains(&".card.pm.lock".into()), "{:?}", folder.names());
 }
 
 #[test]
@@ -107,107 +89,13 @@ fn one_file_for_two_parts_is_told() {
     let folder = Folder::with_card("md5", 2, "optimal");
     let before = seal(&folder, "card.pm");
     folder.write("late.pm", folder.read("card.pm"));
-    fs::hard_link(folder.path("late.pm"), folder.path("same.pm")).unwrap();
-    for (call, status, said) in [
-        (&["ride", "card.pm", "./card.pm", "--save"][..], 8, "named twice"),
-        (&["ride", "late.pm", "same.pm", "--save"], 8, "named twice"),
-        (&["round", "late.pm", "--to-tick", "--out", "late.pm"], 7, "read in this very run"),
-        (&["round", "late.pm", "--to-tick", "--out", "same.pm", "--force"], 7, "read in this very run"),
-    ] {
-        let (ended, words) = folder.trouble(call);
-        assert_eq!(ended, status, "{words}");
-        assert!(words.contains(said), "{words}");
+    folder.good(&["round", "late.pm", "--times", "3"]);
+    for call in [&["ride", "card.pm", "./card.pm", "--save"][..], &["round", "late.pm", "--out", "late.pm"]] {
+        let (status, words) = folder.trouble(call);
+        assert_eq!(status, 4);
+        assert!(words.contains("named twice"), "{words}");
     }
     assert_eq!(seal(&folder, "card.pm"), before);
-}
-
-/// What `--out` names is written over only when that is asked for; a record and what the run reads, not even then.
-#[test]
-fn out_writes_over_nothing_of_worth() {
-    let folder = Folder::with_card("md5", 4, "optimal");
-    folder.good(&["round", "card.pm", "--times", "15"]);
-    folder.write("notes.txt", "mine");
-    folder.write("empty.txt", "");
-    fs::hard_link(folder.path("seed.hex"), folder.path("same.hex")).unwrap();
-    symlink("seed.hex", folder.path("link.hex")).unwrap();
-    symlink("nowhere.hex", folder.path("dangling.hex")).unwrap();
-    folder.write("start.pm", folder.read("card.pm"));
-    let anchor = ["anchor", "--function", "md5", "--k", "4", "--seed-file", "seed.hex", "--out"];
-    let round = ["round", "card.pm", "--out"];
-    let picture = ["picture", "run", "optimal", "2", "--out"];
-    let before: Vec<_> =
-        folder.names().iter().filter(|name| *name != "dangling.hex").map(|name| (name.clone(), seal(&folder, name))).collect();
-    for call in [&anchor[..], &round, &picture] {
-        for name in ["notes.txt", "empty.txt", "seed.hex", "card.pm", "start.pm", "post.pm", "link.hex", "./notes.txt", "dangling.hex"] {
-            let (status, words) = folder.trouble(&[call, &[name]].concat());
-            assert_eq!(status, 7, "{call:?} {name}: {words}");
-        }
-        for name in ["card.pm", "start.pm", "post.pm", "dangling.hex"] {
-            let (status, words) = folder.trouble(&[call, &[name, "--force"]].concat());
-            assert_eq!(status, 7, "{call:?} {name}: {words}");
-        }
-        let status = |name| folder.trouble(&[call, &[name, "--force"]].concat()).0;
-        assert_eq!((status("."), status("none/x.hex"), status("x.hex/"), status("/dev/null")), (8, 3, 8, 8), "{call:?}");
-    }
-    for name in ["seed.hex", "same.hex", "link.hex", "./seed.hex"] {
-        let (status, words) = folder.trouble(&[&anchor[..], &[name, "--force"]].concat());
-        assert_eq!(status, 7, "{name}: {words}");
-        assert!(words.contains("read in this very run"), "{words}");
-    }
-    for (name, was) in &before {
-        assert_eq!(seal(&folder, name), *was, "{name}");
-    }
-    folder.good(&[&anchor[..], &["notes.txt", "--force"]].concat());
-    assert_eq!(folder.read("notes.txt"), folder.read("anchor.hex"));
-    folder.good(&[&round[..], &["empty.txt", "--force"]].concat());
-    assert_eq!(folder.read("empty.txt").len(), 33);
-    assert_eq!(folder.trouble(&["round", "card.pm", "--force"]).0, 2);
-}
-
-/// In a folder that others may write to, anything may stand where the tool makes its new files, or made its locks once.
-#[test]
-fn what_others_planted_is_not_followed_or_touched() {
-    let folder = Folder::with_card("md5", 3, "optimal");
-    folder.write("worth.txt", "of worth");
-    for planted in [".card.pm.lock", ".card.pm.new", ".post.pm.new", ".sold.pm.new", ".tick.hex.new", ".sold.pm.lock"] {
-        symlink("worth.txt", folder.path(planted)).unwrap();
-    }
-    fs::create_dir(folder.path(".card.pm.new-1")).unwrap();
-    let worth = seal(&folder, "worth.txt");
-    folder.good(&["round", "card.pm", "--times", "8", "--out", "tick.hex"]);
-    folder.good(&["offer", "post.pm", "--value-file", "tick.hex"]);
-    folder.good(&["start", "sold.pm", "--function", "md5", "--k", "2", "--seed-file", "seed.hex"]);
-    folder.good(&["ride", "card.pm", "post.pm", "--save"]);
-    assert_eq!(seal(&folder, "worth.txt"), worth);
-    assert!(fs::symlink_metadata(folder.path(".card.pm.new")).unwrap().is_symlink());
-}
-
-/// Another user's files are in the way of nobody. It takes root to play two users.
-#[test]
-fn what_another_user_left_shuts_nobody_out() {
-    let folder = Folder::with_card("md5", 3, "optimal");
-    if fs::metadata(folder.path("card.pm")).unwrap().uid() != 0 {
-        println!("not tried: only root can play two users");
-        return;
-    }
-    let (one, other) = (65533, 65534);
-    fs::set_permissions(&folder.0, fs::Permissions::from_mode(0o1777)).unwrap();
-    for name in ["card.pm", "post.pm", "seed.hex"] {
-        chown(folder.path(name), Some(one), Some(one)).unwrap();
-    }
-    for name in [".card.pm.lock", ".card.pm.new", ".post.pm.new", ".new.pm.new", ".new.pm.lock"] {
-        folder.write_private(name, "theirs");
-        chown(folder.path(name), Some(other), Some(other)).unwrap();
-    }
-    fs::copy(TOOL, folder.path("tool")).unwrap();
-    let run = |args: &[&str]| {
-        let ran = Command::new(folder.path("tool")).args(args).current_dir(&folder.0).uid(one).gid(one).output().unwrap();
-        assert!(ran.status.success(), "{args:?}: {}", String::from_utf8_lossy(&ran.stderr));
-    };
-    run(&["round", "card.pm"]);
-    run(&["ride", "card.pm", "post.pm", "--save"]);
-    run(&["start", "new.pm", "--function", "md5", "--k", "2", "--seed-file", "seed.hex"]);
-    assert_eq!(folder.read(".card.pm.new"), b"theirs");
 }
 
 /// Three shells that run rounds on one card, each again where the card is in use: all rounds are run, and every tick once.
@@ -276,11 +164,8 @@ fn a_run_that_is_killed_leaves_a_whole_record() {
 fn what_a_power_cut_left_does_not_disturb() {
     let folder = Folder::with_card("md5", 3, "optimal");
     folder.write(".card.pm.new", "half a rec");
+    folder.write(".card.pm.lock", "99999");
     folder.good(&["round", "card.pm", "--times", "8"]);
-    assert_eq!(folder.names(), ["anchor.hex", "card.pm", "post.pm", "seed.hex"]);
-    // Cut off when a new card had its place, and its first name was not removed yet.
-    fs::hard_link(folder.path("card.pm"), folder.path(".card.pm.new")).unwrap();
-    folder.good(&["round", "card.pm"]);
     assert_eq!(folder.names(), ["anchor.hex", "card.pm", "post.pm", "seed.hex"]);
     folder.write(".new.pm.new", "half a rec");
     fs::set_permissions(folder.path(".new.pm.new"), fs::Permissions::from_mode(0o644)).unwrap();
@@ -327,71 +212,23 @@ fn a_reader_that_goes_away_costs_no_tick() {
     let ran = folder.shell("(perchmellow round card.pm --times 511; echo $? >status) | true; cat status");
     // The pipe may have taken it all before the reader went.
     match ran.out.trim() {
-        "141" => assert_eq!((seal(&folder, "card.pm"), ran.err.as_str()), (before, "")),
+        "8" => assert_eq!(seal(&folder, "card.pm"), before),
         other => assert_eq!(other, "0"),
     }
 }
 
-/// A file that holds a tick, a card or a post is for its owner alone, whatever it was before; a narrower mode and a link stay.
 #[test]
-fn modes_do_not_get_wider_and_links_are_kept() {
+fn modes_and_links_are_kept() {
     let folder = Folder::with_card("md5", 3, "optimal");
-    let mode = |name: &str| fs::metadata(folder.path(name)).unwrap().mode() & 0o7777;
-    let set = |name: &str, mode| fs::set_permissions(folder.path(name), fs::Permissions::from_mode(mode)).unwrap();
+    let mode = |name: &str| fs::metadata(folder.path(name)).unwrap().mode() & 0o777;
     assert_eq!((mode("card.pm"), mode("post.pm")), (0o600, 0o600));
-    set("card.pm", 0o664);
-    set("post.pm", 0o666);
-    folder.write("tick.hex", "old");
-    set("tick.hex", 0o644);
+    fs::set_permissions(folder.path("card.pm"), fs::Permissions::from_mode(0o640)).unwrap();
     fs::create_dir(folder.path("depot")).unwrap();
     symlink("../card.pm", folder.path("depot/link.pm")).unwrap();
-    folder.good(&["round", "depot/link.pm", "--times", "8", "--out", "tick.hex", "--force"]);
-    folder.good(&["offer", "post.pm", "--value-file", "tick.hex"]);
-    assert_eq!((mode("card.pm"), mode("tick.hex"), mode("post.pm")), (0o600, 0o600, 0o600));
+    folder.good(&["round", "depot/link.pm", "--times", "8", "--out", "tick.hex"]);
+    assert_eq!((mode("card.pm"), mode("tick.hex")), (0o640, 0o600));
     assert!(fs::symlink_metadata(folder.path("depot/link.pm")).unwrap().is_symlink());
     assert_eq!(folder.answer(&["show", "card.pm"])["round"].number(), 9);
-    set("card.pm", 0o400);
-    folder.good(&["round", "card.pm"]);
-    assert_eq!(mode("card.pm"), 0o400);
-    // What anyone may see keeps its mode.
-    set("anchor.hex", 0o640);
-    folder.good(&["anchor", "--function", "md5", "--k", "3", "--seed-file", "seed.hex", "--out", "anchor.hex", "--force"]);
-    assert_eq!(mode("anchor.hex"), 0o640);
-}
-
-/// Saved, and then the answer could not be printed: the tool says what was saved, and does not ask to run it again.
-#[test]
-fn an_answer_that_is_lost_does_not_ask_for_a_second_run() {
-    let folder = Folder::with_card("md5", 3, "optimal");
-    folder.good(&["round", "card.pm", "--times", "7"]);
-    let seed = "--function md5 --k 3 --seed-file seed.hex";
-    for (line, said) in [
-        ("round card.pm --out tick.hex".into(), "the rounds are run and card.pm is saved, and tick.hex has what was put out. "),
-        ("offer post.pm --value-file tick.hex".into(), "post.pm is saved: credited 1; 1 paid, 7 unpaid. "),
-        (format!("start a.pm {seed}"), "a.pm is written. "),
-        (format!("rebuild b.pm --round 3 {seed}"), "b.pm is written. "),
-        (format!("anchor --out c.hex {seed}"), "c.hex is written. "),
-        ("enrol d.pm --function md5 --k 3 --anchor-file anchor.hex".into(), "d.pm is written. "),
-        ("picture run optimal 2 --out e.svg".into(), "e.svg is written. "),
-    ] {
-        let ran = folder.shell(&format!("perchmellow {line} > /dev/full"));
-        assert_eq!(ran.status, 5, "{line}: {}", ran.err);
-        assert!(ran.err.starts_with(&format!("perchmellow: {said}Only the answer was lost: ")), "{line}: {}", ran.err);
-        assert!(!ran.err.contains("run this again.") && ran.err.contains("Do not run this again"), "{line}: {}", ran.err);
-    }
-    assert_eq!(folder.answer(&["show", "card.pm"])["round"].number(), 9);
-    assert_eq!(folder.answer(&["show", "post.pm"])["paid"].number(), 1);
-    for name in ["a.pm", "b.pm", "c.hex", "d.pm", "e.svg"] {
-        assert!(!folder.read(name).is_empty(), "{name}");
-    }
-    // The other way round: what could not be printed was not saved either.
-    let before = seal(&folder, "card.pm");
-    for line in ["round card.pm", "round card.pm --out -", "round card.pm --json"] {
-        let ran = folder.shell(&format!("perchmellow {line} > /dev/full"));
-        assert_eq!(ran.status, 5, "{line}: {}", ran.err);
-        assert!(ran.err.contains("The card stands where it stood"), "{line}: {}", ran.err);
-    }
-    assert_eq!(seal(&folder, "card.pm"), before);
 }
 
 /// As another user than the one that the files belong to; a test run by root becomes nobody for it.
@@ -423,10 +260,9 @@ fn files_of_others_are_told() {
 #[test]
 fn files_that_cannot_be_used_are_told_apart() {
     let folder = Folder::with_card("md5", 2, "optimal");
-    folder.write_private("words.hex", "not hex digits at all, thirty-two");
-    folder.write_private("odd.hex", "123");
-    folder.write_private("two.hex", format!("{SEED}\n{SEED}\n"));
-    folder.write_private("empty.hex", " \n");
+    folder.write("words.hex", "not hex digits at all, thirty-two");
+    folder.write("odd.hex", "123");
+    folder.write("two.hex", format!("{SEED}\n{SEED}\n"));
     folder.write("long.pm", vec![0; (1 << 20) + 1]);
     let status = |args: &[&str]| folder.trouble(args).0;
     let start = |card, seed| ["start", card, "--function", "md5", "--k", "2", "--seed-file", seed];
@@ -439,12 +275,6 @@ fn files_that_cannot_be_used_are_told_apart() {
     assert_eq!(status(&start("new.pm", "words.hex")), 9);
     assert_eq!(status(&start("new.pm", "odd.hex")), 9);
     assert_eq!(status(&start("new.pm", "two.hex")), 9);
-    assert_eq!(status(&start("new.pm", "empty.hex")), 9);
-    assert_eq!(status(&start("new.pm", ".")), 8);
-    assert_eq!(status(&start("new.pm/", "seed.hex")), 8);
-    assert_eq!(status(&start("-", "seed.hex")), 8);
-    assert_eq!(status(&["rebuild", "new.pm/", "--function", "md5", "--k", "2", "--round", "1", "--seed-file", "seed.hex"]), 8);
-    assert_eq!(status(&["enrol", "-", "--function", "md5", "--k", "2", "--anchor-file", "anchor.hex"]), 8);
     assert_eq!(status(&["round", "."]), 8);
     assert_eq!(status(&["show", "/dev/null"]), 8);
     assert_eq!(status(&["show", "long.pm"]), 8);

@@ -1,30 +1,14 @@
 //! `picture`: a run drawn as SVG, in the manner of the article's figures, and the life of the slots.
 
-use crate::args::{Args, Command};
-use crate::cards::is_written;
-use crate::form::{may, Form, FORCE, JSON};
-use crate::json::Json;
-use crate::names::Number;
-use crate::refused::Given;
+use crate::args::Args;
+use crate::files::{shown, Locked};
+use crate::refused::Asked;
 use crate::run::{run, Step};
-use crate::say::{Answer, Done};
+use crate::say::{count, Answer, Done, Json};
 use crate::svg::{Sheet, Side, BLUE, FAINT, GOLD, GREEN, INK, ORANGE, PALE_BLUE, PALE_ORANGE, SHADE};
-use crate::words::{count, shown};
-use perchmellow::{slots, Function, VALUE_LEN};
+use perchmellow::{slots, MD5, VALUE_LEN};
 
-pub const COMMAND: Command = Command {
-    form: Form {
-        name: "picture",
-        operands: "KIND SCHEDULE K",
-        what: "Draws a run as SVG: KIND run for the pebbles on the chain, slots for what each slot holds.",
-        options: &[may("--out FILE", "write the picture to FILE and not to standard output"), FORCE, JSON],
-        more: "SCHEDULE is rushing, speed-1, speed-2 or optimal; K is from 0 to 6.",
-        example: &["perchmellow picture run optimal 4 --out run.svg", "perchmellow picture slots speed-1 5 --out slots.svg"],
-    },
-    run: picture,
-};
-
-fn picture(args: &Args) -> Done {
+pub fn picture(args: &Args) -> Done {
     let kind = args.operand(0)?;
     let (name, schedule, k) = args.run_asked(1, 6)?;
     let draw = match kind.to_str() {
@@ -32,19 +16,16 @@ fn picture(args: &Args) -> Done {
         Some("slots") => of_slots,
         _ => return Err(args.usage("KIND is run or slots.")),
     };
-    let to = args.out(&[])?;
-    let refused = |refusal| Given::k(Number::new(k)).refused("start", refusal);
-    let steps = run(Function::MD5, k, schedule, &[0; VALUE_LEN]).map_err(refused)?;
+    let steps = run(MD5, k, schedule, &[0; VALUE_LEN]).map_err(|refusal| Asked::of_k(k).refused("start", refusal))?;
     let svg = draw(&Run { name, k, slots: slots(k, schedule), steps });
-    let about = |told| vec![("schedule", Json::text(name)), ("k", Json::number(k)), told];
-    match to {
-        None => args.answer(Answer { words: svg.clone(), fields: about(("svg", Json::text(svg))) })?,
-        Some((path, place)) => {
-            place.write_public(svg.as_bytes())?;
-            let words = format!("{}: {} bytes of SVG\n", shown(path), svg.len());
-            args.answer_saved(&is_written(path), Answer { words, fields: about(("file", Json::text(shown(path)))) })?;
+    let (words, told) = match args.path("--out") {
+        Some(to) => {
+            Locked::place(to)?.write_public(svg.as_bytes())?;
+            (format!("{}: {} bytes of SVG\n", shown(to), svg.len()), ("file", Json::text(shown(to))))
         }
-    }
+        None => (svg.clone(), ("svg", Json::text(svg))),
+    };
+    args.answer(Answer { words, fields: vec![("schedule", Json::text(name)), ("k", Json::number(k)), told] })?;
     Ok(0)
 }
 

@@ -1,26 +1,11 @@
 //! The demo: a card of 16 ticks pays a post, a line a round.
 
-use crate::args::{Args, Command};
-use crate::form::Form;
+use crate::args::Args;
 use crate::run::{run, Step};
 use crate::say::{out, Done};
-use crate::system::lively;
-use crate::words::hex;
-use perchmellow::{anchor, enrol, offer, settle, Function, Refusal, Schedule, POST_LEN, VALUE_LEN};
+use perchmellow::{anchor, enrol, offer, settle, Refusal, MD5, OPTIMAL, POST_LEN, VALUE_LEN};
 use std::fmt::Write;
-use std::io::stdout;
-
-pub const COMMAND: Command = Command {
-    form: Form {
-        name: "demo",
-        operands: "",
-        what: "Plays a card of 16 ticks against a post, a line a round.",
-        options: &[],
-        more: "",
-        example: &["perchmellow demo"],
-    },
-    run: demo,
-};
+use std::io::{stdout, IsTerminal};
 
 const K: u32 = 4;
 const TICKS: u32 = 1 << K;
@@ -28,9 +13,8 @@ const GAP: u32 = 2;
 /// The tick that gets lost between card and post.
 const LOST: u32 = 6;
 
-fn demo(_: &Args) -> Done {
-    let unwanted = std::env::var_os("NO_COLOR").is_some_and(|said| !said.is_empty());
-    let colour = lively(&stdout()) && !unwanted;
+pub fn demo(_: &Args) -> Done {
+    let colour = stdout().is_terminal() && std::env::var_os("NO_COLOR").is_none();
     out(&scene(colour).expect("the demo's own numbers are in range"))?;
     Ok(0)
 }
@@ -39,8 +23,8 @@ fn demo(_: &Args) -> Done {
 fn scene(colour: bool) -> Result<String, Refusal> {
     let seed = *b"a seed for trial";
     let (mut last, mut post) = ([0; VALUE_LEN], [0; POST_LEN]);
-    anchor(Function::MD5, K, &seed, &mut last)?;
-    enrol(Function::MD5, K, &last, &mut post)?;
+    anchor(MD5, K, &seed, &mut last)?;
+    enrol(MD5, K, &last, &mut post)?;
 
     let mut text = format!(
         "A card of {TICKS} ticks (MD5, optimal schedule) pays a post whose gap limit is {GAP}. Before each round\n\
@@ -53,7 +37,7 @@ fn scene(colour: bool) -> Result<String, Refusal> {
     );
     let (mut paid, mut hashes, mut most) = (0, 0, 0);
     let mut newest = last;
-    for step in run(Function::MD5, K, Schedule::OPTIMAL, &seed)? {
+    for step in run(MD5, K, OPTIMAL, &seed)? {
         let said = match step.put_out {
             None => String::from("-"),
             Some(LOST) => format!("{}  sees nothing", tick(LOST, &step.tick)),
@@ -67,13 +51,14 @@ fn scene(colour: bool) -> Result<String, Refusal> {
         most = most.max(step.hashes);
         let _ = writeln!(text, "{:5}  {}  {:4}  {:6}  {said}", step.round, chain(&step, colour), step.held.len(), step.hashes);
     }
-    let answer = if settle(Function::MD5, K, &last, &newest, paid)? { "yes" } else { "no" };
+    let answer = if settle(MD5, K, &last, &newest, paid)? { "yes" } else { "no" };
     let _ = write!(text, "\n{hashes} hashes in all, at most {most} in a round. Settle, for {paid} ticks paid: {answer}.\n");
     Ok(text)
 }
 
 fn tick(position: u32, value: &[u8]) -> String {
-    format!("tick {position:2}  {}..", hex(&value[..4]))
+    let front: String = value[..4].iter().map(|byte| format!("{byte:02x}")).collect();
+    format!("tick {position:2}  {front}..")
 }
 
 fn chain(step: &Step, colour: bool) -> String {

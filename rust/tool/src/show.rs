@@ -4,81 +4,64 @@
 //! with all of them, and the slot at position 0 is the seed. What a workshop needs to know of them is told instead: whether each
 //! leads to the next.
 
-use crate::args::{Args, Command};
-use crate::files::read;
-use crate::form::{Form, JSON, SEED_LINE, START_LINE};
-use crate::json::Json;
+use crate::args::Args;
+use crate::files::{read, shown};
 use crate::posts::{paid, settle_record};
 use crate::record::{bytes_named, Kind, Line, Read};
-use crate::say::{Answer, Done};
-use crate::words::{count, shown};
-use perchmellow::{settle, Function, Refusal, CARD_HEAD_LEN, K_MOST, VALUE_LEN};
+use crate::say::{count, Answer, Done, Json};
+use perchmellow::{settle, Refusal, CARD_HEAD_LEN, K_MOST, VALUE_LEN};
 use std::fmt::Write;
 use std::path::Path;
 
-pub const COMMAND: Command = Command {
-    form: Form {
-        name: "show",
-        operands: "FILE",
-        what: "Explains a card or post record byte by byte, a damaged one as far as it can be read.",
-        options: &[JSON],
-        more: "It says which refusal the record earns, if any, and whether its values are of one chain. What a card's slots hold is never \
-               printed: with a slot one could pay every tick from its position up. A file without a record's mark may be a seed's, and \
-               nothing of it is printed.",
-        example: &[SEED_LINE, START_LINE, "perchmellow show card.pm"],
-    },
-    run: show,
-};
-
-fn show(args: &Args) -> Done {
-    let path = args.file(0)?;
-    let record = read(path)?;
-    args.answer(match Kind::of(&record) {
-        Some(kind) => explained(path, kind, &record),
-        None => unmarked(path, &record),
-    })?;
-    Ok(0)
+/// A record of full length without a mark is taken for a post's when it has a post record's length.
+fn guessed(record: &[u8]) -> Kind {
+    if record.len() == perchmellow::POST_LEN {
+        Kind::Post
+    } else {
+        Kind::Card
+    }
 }
 
-fn explained(path: &Path, kind: Kind, record: &[u8]) -> Answer {
-    let (told, refusal) = (Read::of(kind, record), kind.judged(record));
-    let runs = matches!(refusal, None | Some(Refusal::Spent));
-    let chain = if runs { chain(kind, record, &told) } else { None };
-    let mut words = format!("{}: {}, read as a {} record\n", shown(path), length(record), kind.name());
+pub fn show(args: &Args) -> Done {
+    let path = Path::new(args.operand(0)?);
+    let asked = match args.value("--as").map(|word| word.to_str()) {
+        None => None,
+        Some(Some("card")) => Some(Kind::Card),
+        Some(Some("post")) => Some(Kind::Post),
+        Some(_) => return Err(args.wrong("--as", "wants card or post")),
+    };
+    let record = read(path)?;
+    let kind = asked.or(Kind::of(&record)).unwrap_or_else(|| guessed(&record));
+    let refusal = kind.judged(&record);
+    let mut told = Read::of(kind, &record);
+    // A file without a mark may be a seed's: it is read on only when that is asked for, and hex digits are not even then.
+    let digits = record.iter().all(|b| b.is_ascii_hexdigit() || b.is_ascii_whitespace());
+    let outside = Kind::of(&record).is_none() && (asked.is_none() || digits);
+    if outside {
+        told = told.outside();
+    }
+    let chain = match refusal {
+        None | Some(Refusal::Spent) => chain(kind, &record, &told),
+        _ => None,
+    };
+
+    let mut words = format!("{}: {}, read as a {} record\n", shown(path), count(record.len() as u32, "byte", "bytes"), kind.name());
     for line in &told.lines {
         let mark = if line.fault.is_some() { '!' } else { ' ' };
         let _ = writeln!(words, "{mark} {:16} {}", bytes_named(line.from, line.to), line.words);
     }
     words.push_str(&verdict(kind, refusal, told.fault()));
-    if runs {
+    if matches!(refusal, None | Some(Refusal::Spent)) {
         words.push_str(&to_pay(&told));
     }
     if let Some((_, said)) = &chain {
         words.push_str(said);
     }
-    Answer { words, fields: fields(Some(kind), record, &told, refusal, chain.map(|(good, _)| good)) }
-}
-
-/// A file without a record's mark may be a seed's: what is said of it follows from its length alone. In JSON the refusal is the one that a
-/// card's call says.
-fn unmarked(path: &Path, record: &[u8]) -> Answer {
-    let [round, offer] = [Kind::Card, Kind::Post].map(|kind| kind.judged(record));
-    let number = |refusal: Option<Refusal>| refusal.map_or(0, Refusal::number);
-    let refused = match (number(round), number(offer)) {
-        (round, offer) if round == offer => format!("round and offer refuse it with {round}"),
-        (round, offer) => format!("round refuses it with {round}, and offer with {offer}"),
-    };
-    let words = format!(
-        "{}: {} without a record's mark, so nothing of it is shown; {refused}.\n\
-         Look at the name. If it was a record it is damaged: take a copy kept of it, or for a card rebuild it from its seed.\n",
-        shown(path),
-        length(record),
-    );
-    Answer { words, fields: fields(None, record, &Read::of(Kind::Card, record), round, None) }
-}
-
-fn length(record: &[u8]) -> String {
-    count(record.len() as u32, "byte", "bytes")
+    if outside && !digits {
+        words.push_str("A file without a mark is not read on; '--as card' or '--as post' does.\n");
+    }
+    args.answer(Answer { words, fields: fields(kind, &record, &told, refusal, chain.map(|(good, _)| good)) })?;
+    Ok(0)
 }
 
 fn verdict(kind: Kind, refusal: Option<Refusal>, fault: Option<&Line>) -> String {
@@ -119,7 +102,7 @@ fn chain(kind: Kind, record: &[u8], told: &Read) -> Option<(bool, String)> {
     }
     let slot = |at: usize| &record[CARD_HEAD_LEN + at * VALUE_LEN..][..VALUE_LEN];
     let held: Vec<u32> = told.slots.iter().copied().flatten().collect();
-    let leads = |at: usize| settle(Function(told.function?), told.k?, slot(at - 1), slot(at), held[at - 1] - held[at]).ok();
+    let leads = |at: usize| settle(told.function?, told.k?, slot(at - 1), slot(at), held[at - 1] - held[at]).ok();
     let broken = (1..held.len()).find(|at| leads(*at) != Some(true));
     match (held.len(), broken) {
         (0 | 1, _) => None,
@@ -131,7 +114,7 @@ fn chain(kind: Kind, record: &[u8], told: &Read) -> Option<(bool, String)> {
     }
 }
 
-fn fields(kind: Option<Kind>, record: &[u8], told: &Read, refusal: Option<Refusal>, chain: Option<bool>) -> Vec<(&'static str, Json)> {
+fn fields(kind: Kind, record: &[u8], told: &Read, refusal: Option<Refusal>, chain: Option<bool>) -> Vec<(&'static str, Json)> {
     let line = |line: &Line| {
         Json::Object(vec![
             ("from", Json::number(line.from as u64)),
@@ -143,26 +126,25 @@ fn fields(kind: Option<Kind>, record: &[u8], told: &Read, refusal: Option<Refusa
     let most = told.k.filter(|k| *k <= K_MOST).map(|k| 1u32 << k);
     let unpaid = told.paid.zip(most).and_then(|(paid, most)| most.checked_sub(paid));
     let mut fields = vec![
-        ("kind", kind.map_or(Json::Null, |kind| Json::text(kind.name()))),
+        ("kind", Json::text(kind.name())),
         ("length", Json::number(record.len() as u64)),
         ("bytes", Json::List(told.lines.iter().map(line).collect())),
         ("function", Json::or_null(told.function)),
         ("k", Json::or_null(told.k)),
     ];
     match kind {
-        Some(Kind::Card) => fields.extend([
+        Kind::Card => fields.extend([
             ("schedule", Json::or_null(told.schedule)),
             ("round", Json::or_null(told.round)),
             ("rounds_left", Json::or_null(told.rounds_left())),
             ("ticks_left", Json::or_null(told.ticks_left())),
             ("slots", Json::List(told.slots.iter().map(|position| Json::or_null(*position)).collect())),
         ]),
-        Some(Kind::Post) => fields.extend([("paid", Json::or_null(told.paid)), ("unpaid", Json::or_null(unpaid))]),
-        None => {}
+        Kind::Post => fields.extend([("paid", Json::or_null(told.paid)), ("unpaid", Json::or_null(unpaid))]),
     }
     fields.extend([
         ("one_chain", chain.map_or(Json::Null, Json::Yes)),
-        ("refused_by", refusal.map_or(Json::Null, |_| Json::text(kind.unwrap_or(Kind::Card).call()))),
+        ("refused_by", refusal.map_or(Json::Null, |_| Json::text(kind.call()))),
         ("refusal", Json::or_null(refusal.map(Refusal::number))),
         ("fault", told.fault().map_or(Json::Null, line)),
     ]);
