@@ -2,4 +2,5 @@ pub mod Unchanged
 pub mod CardBehind
 pub mod PostRead
 pub mod PostBehind
+pub mod PostOffers
 pub mod Calls

@@ -20,96 +20,47 @@ use Rattle.post.specs.Promises.{unpaid, judged_enrol_says, judged_enrol_post, en
 use Rattle.post.specs.Search.{fewest}
 use Rattle.post.specs.Sound.{enrollable, searchable}
 use Rattle.demands.specs.Front.{longer, over-front}
-use Rattle.demands.specs.PostBehind.{offers}
-use Rattle.demands.proofs.PostRead.{head_same, marked_same, anchor_same, held_same}
+use Rattle.demands.proofs.PostRead.{anchor_same, judged_same, found_same, credit_within}
+
+-- ---- what an offer says and leaves
 
 module _ (own rest : List ℕ) (whole : size ≤ length own) where
-  paid_same : (head : Head) → inspect_paid (own ++ rest) head ≡ inspect_paid own head
-  unfolding inspect_paid
-  paid_same head = rw (held_same own rest whole head, anchor_same own rest whole head) refl
-
-  inspected_same : inspect_of (own ++ rest) ≡ inspect_of own
-  unfolding inspect_of
-  inspected_same =
-      rw (
-        le-ltb (length (own ++ rest)) size (longer own rest size whole),
-        le-ltb (length own) size whole,
-        marked_same own rest whole,
-        head_same own rest whole,
-        go (numbers (head_of own)),
-      ) refl
-    where
-      go : (seen : Inspected) → passing seen (inspect_paid (own ++ rest)) ≡ passing seen (inspect_paid own)
-      go (Refused x) = refl
-      go (Post head) = paid_same head
-
-  -- ---- what an offer says and leaves
-
   module _ (value : List ℕ) (gap : ℕ) where
-    judged_same : offer_judged (own ++ rest) value gap ≡ offer_judged own value gap
-    unfolding offer_judged
-    judged_same = ap (λ (seen : Inspected). passing seen (ready value gap)) inspected_same
-
-    found_same : (head : Head) → search_finds (own ++ rest) value gap head ≡ search_finds own value gap head
-    unfolding search_finds
-    found_same head = ap (λ (held : List ℕ). fewest (step (chain_of head)) (limit_of gap head) held value) (held_same own rest whole head)
-
-    -- the record that a credit writes has a record's bytes
-    credit_within : (head : Head) (g : ℕ) → length value ≡ width_of head → length (post_bytes (credited g head) (anchor_of head own) value) ≤ length own
-    unfolding post_bytes head_bytes anchor_of
-    credit_within head g wide =
-        let w = width_small (chain_of head) in
-        simp (length-append, length-take) (omega (arith, whole, w, wide))
-
     -- the offer says the same
     pub offer_says_the_same : offer_must_say (own ++ rest) value gap ≡ offer_must_say own value gap
     unfolding offer_must_say
-    offer_says_the_same = rw judged_same (go (offer_judged own value gap))
+    offer_says_the_same = rw (judged_same own rest whole value gap) (go (offer_judged own value gap))
       where
         go : (seen : Inspected) → judged_offer_says (own ++ rest) value gap seen ≡ judged_offer_says own value gap seen
         go (Refused x) = refl
-        go (Post head) = ap found_says (found_same head)
+        go (Post head) = ap found_says (found_same own rest whole value gap head)
 
     -- it leaves the record the same, and the bytes behind it as they are
     pub offer_leaves_the_same : offer_post (own ++ rest) value gap ≡ offer_post own value gap ++ rest
     unfolding offer_post
-    offer_leaves_the_same = rw judged_same (go (offer_judged own value gap) refl)
+    offer_leaves_the_same = rw (judged_same own rest whole value gap) (go (offer_judged own value gap) refl)
       where
         by : (head : Head) → length value ≡ width_of head → (found : Found) → found_post head (own ++ rest) value found ≡ found_post head own value found ++ rest
         by head wide (At g) =
-            rw (anchor_same own rest whole head) (over-front own rest (post_bytes (credited g head) (anchor_of head own) value) (credit_within head g wide))
+            rw (anchor_same own rest whole head) (over-front own rest (post_bytes (credited g head) (anchor_of head own) value) (credit_within own rest whole value gap head g wide))
         by head wide Nothing = refl
 
         go : (seen : Inspected) → offer_judged own value gap ≡ seen → judged_offer_post (own ++ rest) value gap seen ≡ judged_offer_post own value gap seen ++ rest
         go (Refused x) q = refl
-        go (Post head) q = rw (found_same head) (by head (searchable own value gap head q).1.wide (search_finds own value gap head))
+        go (Post head) q = rw (found_same own rest whole value gap head) (by head (searchable own value gap head q).1.wide (search_finds own value gap head))
 
     -- which is as long as it was
-    offer_keeps_the_length : length (offer_post own value gap) ≡ length own
+    pub offer_keeps_the_length : length (offer_post own value gap) ≡ length own
     unfolding offer_post
     offer_keeps_the_length = go (offer_judged own value gap) refl
       where
         by : (head : Head) → length value ≡ width_of head → (found : Found) → length (found_post head own value found) ≡ length own
-        by head wide (At g) = over_length (post_bytes (credited g head) (anchor_of head own) value) own (credit_within head g wide)
+        by head wide (At g) = over_length (post_bytes (credited g head) (anchor_of head own) value) own (credit_within own rest whole value gap head g wide)
         by head wide Nothing = refl
 
         go : (seen : Inspected) → offer_judged own value gap ≡ seen → length (judged_offer_post own value gap seen) ≡ length own
         go (Refused x) q = refl
         go (Post head) q = by head (searchable own value gap head q).1.wide (search_finds own value gap head)
-
--- so any number of offers leaves the bytes behind the record as they are, and the record as if they were not there
-pub offers_leave_the_same : (own rest : List ℕ) (os : List (List ℕ × ℕ)) → size ≤ length own → offers (own ++ rest) os ≡ offers own os ++ rest
-unfolding offers
-offers_leave_the_same own rest [] whole = refl
-offers_leave_the_same own rest (offer ∷ more) whole =
-    ap (λ (b : List ℕ). offers b more) (offer_leaves_the_same own rest whole offer.0 offer.1)
-    ∙ offers_leave_the_same (offer_post own offer.0 offer.1) rest more (omega (arith, offer_keeps_the_length own rest whole offer.0 offer.1))
-
--- two buffers that begin with the same record get the same answer
-pub same_record_same_answer : (own rest₁ rest₂ value : List ℕ) (gap : ℕ) → size ≤ length own
-    → offer_must_say (own ++ rest₁) value gap ≡ offer_must_say (own ++ rest₂) value gap
-same_record_same_answer own rest₁ rest₂ value gap whole =
-    offer_says_the_same own rest₁ whole value gap ∙ sym (offer_says_the_same own rest₂ whole value gap)
 
 -- ---- enrol
 

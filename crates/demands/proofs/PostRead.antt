@@ -1,13 +1,24 @@
 -- What is read of a post's record, damaged or not, does not depend on the bytes behind it. Assumes nothing.
 use Rattle.std.specs.Prelude.{◌≡◌, ℕ, ◌+◌, ◌≤◌, ◌<◌, get_or}
-use Rattle.std.proofs.Math.Path.{refl}
-use Rattle.std.proofs.Common.{arith}
-use mathlib.Core.List.{List, ◌++◌}
-use Rattle.std.proofs.Math.ListN.{length, get_or-append}
+use Rattle.std.proofs.Math.Path.{refl, ap}
+use Rattle.std.proofs.Common.{arith, sym, ◌∙◌, length-take}
+use mathlib.Core.List.{List, ◌++◌, [], ◌∷◌}
+use Rattle.std.proofs.Math.ListN.{length, get_or-append, length-append}
 use Rattle.oneway.specs.Laws.{width_small}
 use Rattle.post.specs.declared.Head.{Head}
-use Rattle.post.specs.Record.{size, chain_of, width_of, marked, head_of, anchor_of, held_value}
-use Rattle.demands.specs.Front.{part_front}
+use Rattle.post.specs.Record.{size, chain_of, width_of, marked, head_of, anchor_of, held_value, head_bytes, post_bytes}
+use Rattle.demands.specs.Front.{part_front, longer, over-front}
+use borrow.Author.Tests.{le-ltb}
+use Rattle.lists.specs.Writing.{over_length}
+use Rattle.oneway.specs.Step.{step}
+use Rattle.post.specs.declared.Found.{Found}
+use Rattle.post.specs.declared.Found.TheVariants.{At, Nothing}
+use Rattle.post.specs.declared.Inspected.{Inspected}
+use Rattle.post.specs.declared.Inspected.TheVariants.{Refused, Post}
+use Rattle.post.specs.Refused.{passing, numbers, room_for, enrol_judged, inspect_paid, inspect_of, ready, offer_judged}
+use Rattle.post.specs.Promises.{unpaid, judged_enrol_says, judged_enrol_post, enrol_must_say, enrol_post, limit_of, search_finds, credited, found_says, found_post, judged_offer_says, judged_offer_post, offer_must_say, offer_post}
+use Rattle.post.specs.Search.{fewest}
+use Rattle.post.specs.Sound.{enrollable, searchable}
 
 module _ (own rest : List ℕ) (whole : size ≤ length own) where
   pub byte : (n : ℕ) → n < 8 → get_or (own ++ rest) n 0 ≡ get_or own n 0
@@ -28,3 +39,40 @@ module _ (own rest : List ℕ) (whole : size ≤ length own) where
   pub held_same : (head : Head) → held_value head (own ++ rest) ≡ held_value head own
   unfolding held_value
   held_same head = part_front own rest (width_of head) (8 + width_of head) (omega (arith, whole, width_small (chain_of head)))
+
+  pub paid_same : (head : Head) → inspect_paid (own ++ rest) head ≡ inspect_paid own head
+  unfolding inspect_paid
+  paid_same head = rw (held_same head, anchor_same head) refl
+
+  pub inspected_same : inspect_of (own ++ rest) ≡ inspect_of own
+  unfolding inspect_of
+  inspected_same =
+      rw (
+        le-ltb (length (own ++ rest)) size (longer own rest size whole),
+        le-ltb (length own) size whole,
+        marked_same,
+        head_same,
+        go (numbers (head_of own)),
+      ) refl
+    where
+      go : (seen : Inspected) → passing seen (inspect_paid (own ++ rest)) ≡ passing seen (inspect_paid own)
+      go (Refused x) = refl
+      go (Post head) = paid_same head
+
+  -- ---- what an offer reads
+
+  module _ (value : List ℕ) (gap : ℕ) where
+    pub judged_same : offer_judged (own ++ rest) value gap ≡ offer_judged own value gap
+    unfolding offer_judged
+    judged_same = ap (λ (seen : Inspected). passing seen (ready value gap)) inspected_same
+
+    pub found_same : (head : Head) → search_finds (own ++ rest) value gap head ≡ search_finds own value gap head
+    unfolding search_finds
+    found_same head = ap (λ (held : List ℕ). fewest (step (chain_of head)) (limit_of gap head) held value) (held_same head)
+
+    -- the record that a credit writes has a record's bytes
+    pub credit_within : (head : Head) (g : ℕ) → length value ≡ width_of head → length (post_bytes (credited g head) (anchor_of head own) value) ≤ length own
+    unfolding post_bytes head_bytes anchor_of
+    credit_within head g wide =
+        let w = width_small (chain_of head) in
+        simp (length-append, length-take) (omega (arith, whole, w, wide))

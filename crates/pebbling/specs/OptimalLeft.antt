@@ -1,8 +1,8 @@
 -- How many of its 2^k - 1 hashes an optimal P_k has still to do, c rounds before it puts out its y_0, in closed form: `left k c`.
 --
 -- Let z be what c lacks to the power of two above it, c + z = 2^(len c). In the round that is c from the end the schedule's remainder is 2z, or 0 where c
--- is a power of two. So its hashes are half of s, s being k - len z, or k + 1 at a power of two, and rounded up where k + c is odd (`busy-in`, `busy-at`).
--- Twice what is left is the sum of these s, but for the rounding. The curve g k rises by k - len n from n to n + 1 (`g-suc`); from one power of two to the
+-- is a power of two. So its hashes are half of s, s being k - len z, or k + 1 at a power of two, and rounded up where k + c is odd (`busy_in`, `busy_at`).
+-- Twice what is left is the sum of these s, but for the rounding. The curve g k rises by k - len n from n to n + 1 (`g_suc`); from one power of two to the
 -- next c grows and z falls, so the sum is a constant less g k z there. That constant is g (k + 2) (2 ^ len c) - 2: the sum is then 0 at c = 0, and grows by
 -- k + 1 at each power of two (`step_in`, `step-at`). As for the rounding, a sum that is odd is followed by a step that is odd (`step_odd_in`,
 -- `step_odd_at`), so that the two halves are rounded as their sum is (`halves`). Sums stand on both sides, and no difference is cut off at 0.

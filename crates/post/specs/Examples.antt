@@ -35,7 +35,7 @@ too_far = refl
 
 -- a record, and its head read back
 head : Head
-head = record { function = 1; k = 20; paid = 0x0001_02_fF }
+head = record { function = 1; k = 20; paid = 0x0001_02FF }
 
 laid_out : post_bytes head (8 ∷ []) (9 ∷ []) ≡ 0xB7 ∷ 0x02 ∷ 1 ∷ 20 ∷ 0xFF ∷ 0x02 ∷ 0x01 ∷ 0 ∷ 8 ∷ 9 ∷ []
 unfolding post_bytes head_bytes head

@@ -41,14 +41,14 @@ sold_card function n s seed lent outs (suc m) = round_card (sold_card function n
 
 -- ---- the anchor, which takes no schedule and no card
 
-module _ (function n : ℕ) (seed : List ℕ) (is_Known : known function ≡ true) (some : 0 < n) (few : n ≤ 1048576) (seeded : length seed ≡ width (record { function = function })) where
+module _ (function n : ℕ) (seed : List ℕ) (is_known : known function ≡ true) (some : 0 < n) (few : n ≤ 1048576) (seeded : length seed ≡ width (record { function = function })) where
   abbrev f : Chain
   f = record { function = function }
 
   passes : (out : List ℕ) → width f ≤ length out → anchor_ticks_judged f n seed out ≡ Done
   unfolding anchor_ticks_judged
   passes out w =
-      rw (is_Known, allowed_holds n some few, eq-eqb (length seed) (width f) seeded, le-ltb (length out) (width f) w) refl
+      rw (is_known, allowed_holds n some few, eq-eqb (length seed) (width f) seeded, le-ltb (length out) (width f) w) refl
 
   pub anchor_ticks_is_done : (out : List ℕ) → width f ≤ length out → anchor_ticks_must_say f n seed out ≡ 0 ∷ []
   unfolding anchor_ticks_must_say
