@@ -1,23 +1,21 @@
--- Bytes behind a post's record are neither read nor written, by an enrol, by an offer or by many offers. The record may be damaged: all that is
--- asked is that it has a record's bytes. Assumes nothing.
+-- Bytes behind a post's record are neither read nor written, by an enrol or by an offer; proofs/PostOffers.antt has many offers. The record may
+-- be damaged: all that is asked is that it has a record's bytes. Assumes nothing.
 use Rattle.std.specs.Prelude.{◌≡◌, ℕ, ◌≤◌}
 use Rattle.std.proofs.Math.Path.{refl, ap}
-use Rattle.std.proofs.Common.{sym, ◌∙◌, arith, length-take}
-use mathlib.Core.List.{List, [], ◌∷◌, ◌++◌}
+use Rattle.std.proofs.Common.{arith}
+use mathlib.Core.List.{List, ◌++◌}
 use borrow.Author.Tests.{le-ltb}
 use Rattle.std.proofs.Math.ListN.{length, length-append}
 use Rattle.lists.specs.Writing.{over_length}
 use Rattle.oneway.specs.Laws.{width_small}
-use Rattle.oneway.specs.Step.{step}
 use Rattle.post.specs.declared.Found.{Found}
 use Rattle.post.specs.declared.Found.TheVariants.{At, Nothing}
 use Rattle.post.specs.declared.Head.{Head}
 use Rattle.post.specs.declared.Inspected.{Inspected}
 use Rattle.post.specs.declared.Inspected.TheVariants.{Refused, Post}
-use Rattle.post.specs.Record.{size, chain_of, width_of, head_bytes, post_bytes, head_of, anchor_of}
-use Rattle.post.specs.Refused.{passing, numbers, room_for, enrol_judged, inspect_paid, inspect_of, ready, offer_judged}
-use Rattle.post.specs.Promises.{unpaid, judged_enrol_says, judged_enrol_post, enrol_must_say, enrol_post, limit_of, search_finds, credited, found_says, found_post, judged_offer_says, judged_offer_post, offer_must_say, offer_post}
-use Rattle.post.specs.Search.{fewest}
+use Rattle.post.specs.Record.{size, chain_of, width_of, head_bytes, post_bytes, anchor_of}
+use Rattle.post.specs.Refused.{passing, numbers, room_for, enrol_judged, offer_judged}
+use Rattle.post.specs.Promises.{unpaid, judged_enrol_says, judged_enrol_post, enrol_must_say, enrol_post, search_finds, credited, found_says, found_post, judged_offer_says, judged_offer_post, offer_must_say, offer_post}
 use Rattle.post.specs.Sound.{enrollable, searchable}
 use Rattle.demands.specs.Front.{longer, over-front}
 use Rattle.demands.proofs.PostRead.{anchor_same, judged_same, found_same, credit_within}

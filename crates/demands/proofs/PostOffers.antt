@@ -1,24 +1,11 @@
 -- Bytes behind a post's record, after any number of offers, and two buffers that begin with the same record. Assumes nothing.
 use Rattle.std.specs.Prelude.{◌≡◌, ℕ, ◌≤◌}
 use Rattle.std.proofs.Math.Path.{refl, ap}
-use Rattle.std.proofs.Common.{sym, ◌∙◌, arith, length-take}
+use Rattle.std.proofs.Common.{sym, ◌∙◌, arith}
 use mathlib.Core.List.{List, [], ◌∷◌, ◌++◌}
-use borrow.Author.Tests.{le-ltb}
-use Rattle.std.proofs.Math.ListN.{length, length-append}
-use Rattle.lists.specs.Writing.{over_length}
-use Rattle.oneway.specs.Laws.{width_small}
-use Rattle.oneway.specs.Step.{step}
-use Rattle.post.specs.declared.Found.{Found}
-use Rattle.post.specs.declared.Found.TheVariants.{At, Nothing}
-use Rattle.post.specs.declared.Head.{Head}
-use Rattle.post.specs.declared.Inspected.{Inspected}
-use Rattle.post.specs.declared.Inspected.TheVariants.{Refused, Post}
-use Rattle.post.specs.Record.{size, chain_of, width_of, head_bytes, post_bytes, head_of, anchor_of}
-use Rattle.post.specs.Refused.{passing, numbers, room_for, enrol_judged, inspect_paid, inspect_of, ready, offer_judged}
-use Rattle.post.specs.Promises.{unpaid, judged_enrol_says, judged_enrol_post, enrol_must_say, enrol_post, limit_of, search_finds, credited, found_says, found_post, judged_offer_says, judged_offer_post, offer_must_say, offer_post}
-use Rattle.post.specs.Search.{fewest}
-use Rattle.post.specs.Sound.{enrollable, searchable}
-use Rattle.demands.specs.Front.{longer, over-front}
+use Rattle.std.proofs.Math.ListN.{length}
+use Rattle.post.specs.Record.{size}
+use Rattle.post.specs.Promises.{offer_must_say, offer_post}
 use Rattle.demands.specs.PostBehind.{offers}
 use Rattle.demands.proofs.PostBehind.{offer_says_the_same, offer_leaves_the_same, offer_keeps_the_length}
 

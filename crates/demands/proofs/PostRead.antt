@@ -1,24 +1,20 @@
 -- What is read of a post's record, damaged or not, does not depend on the bytes behind it. Assumes nothing.
 use Rattle.std.specs.Prelude.{◌≡◌, ℕ, ◌+◌, ◌≤◌, ◌<◌, get_or}
 use Rattle.std.proofs.Math.Path.{refl, ap}
-use Rattle.std.proofs.Common.{arith, sym, ◌∙◌, length-take}
-use mathlib.Core.List.{List, ◌++◌, [], ◌∷◌}
+use Rattle.std.proofs.Common.{arith, length-take}
+use mathlib.Core.List.{List, ◌++◌}
 use Rattle.std.proofs.Math.ListN.{length, get_or-append, length-append}
 use Rattle.oneway.specs.Laws.{width_small}
 use Rattle.post.specs.declared.Head.{Head}
 use Rattle.post.specs.Record.{size, chain_of, width_of, marked, head_of, anchor_of, held_value, head_bytes, post_bytes}
-use Rattle.demands.specs.Front.{part_front, longer, over-front}
+use Rattle.demands.specs.Front.{part_front, longer}
 use borrow.Author.Tests.{le-ltb}
-use Rattle.lists.specs.Writing.{over_length}
 use Rattle.oneway.specs.Step.{step}
-use Rattle.post.specs.declared.Found.{Found}
-use Rattle.post.specs.declared.Found.TheVariants.{At, Nothing}
 use Rattle.post.specs.declared.Inspected.{Inspected}
 use Rattle.post.specs.declared.Inspected.TheVariants.{Refused, Post}
-use Rattle.post.specs.Refused.{passing, numbers, room_for, enrol_judged, inspect_paid, inspect_of, ready, offer_judged}
-use Rattle.post.specs.Promises.{unpaid, judged_enrol_says, judged_enrol_post, enrol_must_say, enrol_post, limit_of, search_finds, credited, found_says, found_post, judged_offer_says, judged_offer_post, offer_must_say, offer_post}
+use Rattle.post.specs.Refused.{passing, numbers, inspect_paid, inspect_of, ready, offer_judged}
+use Rattle.post.specs.Promises.{limit_of, search_finds, credited}
 use Rattle.post.specs.Search.{fewest}
-use Rattle.post.specs.Sound.{enrollable, searchable}
 
 module _ (own rest : List ℕ) (whole : size ≤ length own) where
   pub byte : (n : ℕ) → n < 8 → get_or (own ++ rest) n 0 ≡ get_or own n 0
