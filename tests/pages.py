@@ -92,7 +92,7 @@ def public_functions():
             else:
                 prefix = f"{module}::"
             for exported, function, rest in re.findall(
-                r'(?m)^pub (extern "C" )?fn (\w+)(.*?)\{(?=\n)', re.sub(r"(requires|ensures)(?: \w+)? \{.*?\}\n", r"\1\n", text(f"{folder}/{name}"), flags=re.S), re.S
+                r'(?m)^ *pub (extern "C" )?fn (\w+)(.*?)\{(?=\n)', re.sub(r"(requires|ensures)(?: \w+)? \{.*?\}\n", r"\1\n", text(f"{folder}/{name}"), flags=re.S), re.S
             ):
                 if "requires" not in rest:
                     yield function if exported else prefix + function

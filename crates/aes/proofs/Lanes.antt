@@ -10,7 +10,9 @@ use lib.Bits.{bit_and, bit_or, bit_xor, differ, xor_step, xor_shr, xor_mod, xor_
 use lib.Pow.{low}
 use lib.ListN.{get_or}
 use Rattle.aes.specs.Aes.{◌⊕◌, xtimes, mix_column}
-use Rattle.aes.specs.Lanes.{word, Lanes, lanes, double, turn}
+use Rattle.std.specs.Int.{w32, rotate_right, from_le_bytes, to_le_bytes}
+use Rattle.std.proofs.lemmas.Nat.{or_comm}
+use Rattle.aes.specs.Lanes.{word, Lanes, double}
 use Rattle.aes.proofs.Laws.{twice, thrice}
 
 -- ---- sums in another order
@@ -104,27 +106,39 @@ double_lanes l = xor_lanes (highs l) (lows l)
 
 -- ---- lanes that move
 
-pub turn_lanes : {w a b c d : ℕ} → Lanes w a b c d → Lanes (turn w) b c d a
-unfolding turn
+abbrev turn : ℕ → ℕ
+turn w = rotate_right w32 w 8
+
+pub turn_lanes : {w a b c d : ℕ} → Lanes w a b c d → Lanes (rotate_right w32 w 8) b c d a
 turn_lanes {w} {a} {b} {c} {d} l =
     let e : w * 2 ^ 24 % 2 ^ 32 ≡ a * 2 ^ 24 = omega (arith, l) in
     let f : w / 2 ^ 8 ≡ (d * 256 + c) * 256 + b = omega (arith, l) in
     let g : bit_or (a * 2 ^ 24) (w / 2 ^ 8) ≡ a * 2 ^ 24 + w / 2 ^ 8 = or_shifted a 24 (w / 2 ^ 8) (omega (arith, l)) in
-    record { is = ap (λ (x : ℕ). bit_or x (w / 2 ^ 8)) e ∙ g ∙ omega arith; a_byte = l.b_byte; b_byte = l.c_byte; c_byte = l.d_byte; d_byte = l.a_byte }
+    record {
+      is = or_comm (w / 2 ^ 8) (w * 2 ^ 24 % 2 ^ 32) ∙ ap (λ (x : ℕ). bit_or x (w / 2 ^ 8)) e ∙ g ∙ omega arith;
+      a_byte = l.b_byte;
+      b_byte = l.c_byte;
+      c_byte = l.d_byte;
+      d_byte = l.a_byte;
+    }
 
-pub lanes_are : {w a b c d : ℕ} → Lanes w a b c d → lanes w ≡ a ∷ b ∷ c ∷ d ∷ []
-unfolding lanes
+-- ---- a word as a number, and back
+
+pub packed : (s : List ℕ) → ((i : ℕ) → get_or s i 0 < 256) → Lanes (from_le_bytes w32 s) (get_or s 0 0) (get_or s 1 0) (get_or s 2 0) (get_or s 3 0)
+packed s h = record { is = omega arith; a_byte = h 0; b_byte = h 1; c_byte = h 2; d_byte = h 3 }
+
+pub lanes_are : {w a b c d : ℕ} → Lanes w a b c d → to_le_bytes w32 w ≡ a ∷ b ∷ c ∷ d ∷ []
 lanes_are {w} {a} {b} {c} {d} l =
     let e : w / 0x100 ≡ (d * 256 + c) * 256 + b = omega arith in
     let f : w / 0x10000 ≡ d * 256 + c = omega arith in
     let g : w / 0x1000000 ≡ d = omega arith in
-    rw (e, f, g, l.is, low ((d * 256 + c) * 256 + b) 8 l.a_byte, low (d * 256 + c) 8 l.b_byte, low d 8 l.c_byte)
+    rw (e, f, g, l.is, low ((d * 256 + c) * 256 + b) 8 l.a_byte, low (d * 256 + c) 8 l.b_byte, low d 8 l.c_byte, mod-eq_of_lt l.d_byte)
 
 -- ---- a column mixed
 
 -- row r has the definition's terms, the r terms of the rows before it last; each comes to the front
 pub mixed : (s : List ℕ) {w : ℕ} → Lanes w (get_or s 0 0) (get_or s 1 0) (get_or s 2 0) (get_or s 3 0)
-    → lanes (double w ⊕ (turn w ⊕ turn (double w)) ⊕ turn (turn w) ⊕ turn (turn (turn w))) ≡ mix_column s
+    → to_le_bytes w32 (double w ⊕ (turn w ⊕ turn (double w)) ⊕ turn (turn w) ⊕ turn (turn (turn w))) ≡ mix_column s
 unfolding mix_column
 mixed s l =
     let s₀ = get_or s 0 0 in

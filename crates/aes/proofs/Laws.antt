@@ -1,8 +1,8 @@
 -- Laws of the rounds: small products in the field, and the rounds one by one. Assumes nothing.
 use mathlib.Core.Path.{◌≡◌, refl, ap₂}
 use mathlib.Core.List.{List}
-use Prim.Native.Nat.{ℕ, zero, suc, ◌+◌, ◌-◌, ◌≤◌}
-use native.Mathlib.Nat.{zero-mul, one-mul, not-suc-le-zero}
+use Prim.Native.Nat.{ℕ, zero, suc, ◌+◌, ◌≤◌}
+use native.Mathlib.Nat.{zero-mul, one-mul}
 use native.Mathlib.Omega.{arith}
 use lib.Bits.{xor_zero_r}
 use Rattle.aes.specs.Aes.{◌⊕◌, ◌•◌, xtimes, sub_bytes, shift_rows, mix_columns, add_round_key, rounds}
@@ -16,19 +16,16 @@ pub thrice : (b : ℕ) → 3 • b ≡ b ⊕ xtimes b
 unfolding ◌•◌ xtimes
 thrice b = simp (zero-mul, one-mul, xor_zero_r)
 
--- round n, behind the n - 1 before it
+-- one round more
 pub rounds_next : (k : ℕ → List (List ℕ)) (s t r : List (List ℕ)) (n : ℕ)
-    → 1 ≤ n
-    → t ≡ rounds k s (n - 1)
-    → r ≡ add_round_key (mix_columns (shift_rows (sub_bytes t))) (k n)
-    → r ≡ rounds k s (n + 1 - 1)
+    → t ≡ rounds k s n
+    → r ≡ add_round_key (mix_columns (shift_rows (sub_bytes t))) (k (n + 1))
+    → r ≡ rounds k s (n + 1)
 unfolding rounds
-rounds_next k s t r zero h e f = absurd (not-suc-le-zero h)
-rounds_next k s t r (suc n) h e f =
-    let p : suc n - 1 ≡ n = omega arith in
-    let q : suc n + 1 - 1 ≡ suc n = omega arith in
-    let g : t ≡ rounds k s n = rw p at e in
-    rw (q, ← g) f
+rounds_next k s t r n e f =
+    let p : n + 1 ≡ suc n = omega arith in
+    let g : r ≡ add_round_key (mix_columns (shift_rows (sub_bytes t))) (k (suc n)) = rw p at f in
+    rw (p, ← e) g
 
 -- the rounds ask only for the keys that they add
 pub rounds_same : (k k' : ℕ → List (List ℕ)) (s : List (List ℕ)) (n : ℕ) → ((j : ℕ) → j ≤ n → k j ≡ k' j) → rounds k s n ≡ rounds k' s n

@@ -1,11 +1,10 @@
 // AES-128 encryption of one block. The functions have the names of FIPS 197 and do its steps; a number such as 5.1.1 is a section there.
-// A state is the array of its four columns, and a round key is sixteen bytes. `sub` is the S-box, lent.
+// A state is the array of its four columns, and a round key is sixteen bytes.
 #![tactic(auto)]
 
-ghost use Rattle.std.specs.Prelude.{◌≡◌, ◌<◌, get_or};
-ghost use Rattle.tables.specs.Tabled.{Tabled};
+ghost use Rattle.std.specs.Prelude.{◌≡◌};
 ghost use Rattle.aes.specs.Aes.{columns, bytes, xtimes, s_box, sub_bytes, shift_rows, mix_column, mix_columns, add_round_key, sub_word, xor_words, rounds, cipher};
-ghost use Rattle.aes.specs.Lanes.{Lanes, lanes, double, turn};
+ghost use Rattle.aes.specs.Lanes.{double};
 ghost use Rattle.aes.specs.Schedule.{next_round_key, key_of, RoundKeys};
 
 // 5.1.1, table 4: a row of sixteen for each high half of a byte.
@@ -27,14 +26,6 @@ const S_BOX: [u8; 256] = *b"\
     \xe1\xf8\x98\x11\x69\xd9\x8e\x94\x9b\x1e\x87\xe9\xce\x55\x28\xdf\
     \x8c\xa1\x89\x0d\xbf\xe6\x42\x68\x41\x99\x2d\x0f\xb0\x54\xbb\x16";
 
-// 5.1.1: the whole S-box. `encrypt` binds it once and lends it on, since a constant table that is indexed where it stands is copied
-// each time.
-fn sbox() -> [u8; 256]
-    ensures { Tabled 256 s_box result }
-{
-    S_BOX
-}
-
 // 4.2: the product with x. The bit that is shifted out takes 0x1b or nothing, with no branch.
 fn xtimes(b: u8) -> u8
     ensures { result ≡ xtimes b }
@@ -43,52 +34,22 @@ fn xtimes(b: u8) -> u8
 }
 
 // 5.1.1: the S-box of a byte.
-fn sub_byte(sub: &[u8; 256], b: u8) -> u8
-    requires { Tabled 256 s_box sub.now }
+fn sub_byte(b: u8) -> u8
     ensures { result ≡ s_box b }
 {
-    sub[b as usize]
+    S_BOX[usize::from(b)]
 }
 
-// 5.2: the S-box of each byte of a word.
-fn sub_word(sub: &[u8; 256], a: [u8; 4]) -> [u8; 4]
-    requires { Tabled 256 s_box sub.now }
+// 5.2: the S-box of each byte of a word. The four calls are written out here, in `sub_bytes` and in `mix_columns`: over the array's `map` a
+// block takes 1.4 to 2 in 100 longer, and no hash is to get slower than it was.
+fn sub_word(a: [u8; 4]) -> [u8; 4]
     ensures { result ≡ sub_word a }
 {
-    let b0 = sub_byte(sub, a[0]);
-    let b1 = sub_byte(sub, a[1]);
-    let b2 = sub_byte(sub, a[2]);
-    let b3 = sub_byte(sub, a[3]);
-    [b0, b1, b2, b3]
-}
-
-fn wide(b: u8) -> u32
-    ensures { (result ≡ b) × (result < 256) }
-{
-    b as u32
-}
-
-// A word as one number, its first byte lowest: a byte's place there is a lane. What is done to each byte of a word alike is done to the
-// number at once.
-fn pack(s: [u8; 4]) -> u32
-    ensures { Lanes result (get_or s 0 0) (get_or s 1 0) (get_or s 2 0) (get_or s 3 0) }
-{
-    let b0 = wide(s[0]);
-    let b1 = wide(s[1]);
-    let b2 = wide(s[2]);
-    let b3 = wide(s[3]);
-    b0 + 0x100 * b1 + 0x1_0000 * b2 + 0x100_0000 * b3
-}
-
-// The word back, from its number.
-fn unpack(w: u32) -> [u8; 4]
-    ensures { result ≡ lanes w }
-{
     [
-        (w % 256) as u8,
-        (w / 0x100 % 256) as u8,
-        (w / 0x1_0000 % 256) as u8,
-        (w / 0x100_0000) as u8,
+        sub_byte(a[0]),
+        sub_byte(a[1]),
+        sub_byte(a[2]),
+        sub_byte(a[3]),
     ]
 }
 
@@ -99,18 +60,12 @@ fn doubled(w: u32) -> u32
     (0x1b * ((w & 0x8080_8080) >> 7)) ^ ((w & 0x7f7f_7f7f) << 1)
 }
 
-// Each lane in the place of the one below it, and the lowest at the top.
-fn turned(w: u32) -> u32
-    ensures { result ≡ turn w }
-{
-    (w << 24) | (w >> 8)
-}
-
-// 4.1: the sum of two words, byte by byte.
+// 4.1: the sum of two words, byte by byte. A word's bytes are the lanes of one number, the first lowest: what is done to each byte alike is
+// done to the number at once.
 fn xor_words(a: [u8; 4], b: [u8; 4]) -> [u8; 4]
     ensures { result ≡ xor_words a b }
 {
-    unpack(pack(a) ^ pack(b))
+    (u32::from_le_bytes(a) ^ u32::from_le_bytes(b)).to_le_bytes()
 }
 
 // 3.4: sixteen bytes as a state, or as four words.
@@ -129,10 +84,7 @@ fn columns(input: [u8; 16]) -> [[u8; 4]; 4]
 fn bytes(s: [[u8; 4]; 4]) -> [u8; 16]
     ensures { result ≡ bytes s }
 {
-    let a = s[0];
-    let b = s[1];
-    let c = s[2];
-    let d = s[3];
+    let [a, b, c, d] = s;
     [
         a[0], a[1], a[2], a[3], b[0], b[1], b[2], b[3], c[0], c[1], c[2], c[3], d[0], d[1], d[2],
         d[3],
@@ -140,25 +92,22 @@ fn bytes(s: [[u8; 4]; 4]) -> [u8; 16]
 }
 
 // 5.1.1: the S-box of each byte of a state.
-fn sub_bytes(sub: &[u8; 256], s: [[u8; 4]; 4]) -> [[u8; 4]; 4]
-    requires { Tabled 256 s_box sub.now }
+fn sub_bytes(s: [[u8; 4]; 4]) -> [[u8; 4]; 4]
     ensures { result ≡ sub_bytes s }
 {
-    let c0 = sub_word(sub, s[0]);
-    let c1 = sub_word(sub, s[1]);
-    let c2 = sub_word(sub, s[2]);
-    let c3 = sub_word(sub, s[3]);
-    [c0, c1, c2, c3]
+    [
+        sub_word(s[0]),
+        sub_word(s[1]),
+        sub_word(s[2]),
+        sub_word(s[3]),
+    ]
 }
 
 // 5.1.2: row r, which is byte r of each column, moves r columns to the left.
 fn shift_rows(s: [[u8; 4]; 4]) -> [[u8; 4]; 4]
     ensures { result ≡ shift_rows s }
 {
-    let a = s[0];
-    let b = s[1];
-    let c = s[2];
-    let d = s[3];
+    let [a, b, c, d] = s;
     [
         [a[0], b[1], c[2], d[3]],
         [b[0], c[1], d[2], a[3]],
@@ -172,47 +121,48 @@ fn shift_rows(s: [[u8; 4]; 4]) -> [[u8; 4]; 4]
 fn mix_column(s: [u8; 4]) -> [u8; 4]
     ensures { result ≡ mix_column s }
 {
-    let w = pack(s);
+    let w = u32::from_le_bytes(s);
     let d = doubled(w);
-    let w1 = turned(w);
-    let d1 = turned(d);
-    let w2 = turned(w1);
-    let w3 = turned(w2);
-    unpack(d ^ (w1 ^ d1) ^ w2 ^ w3)
+    let w1 = w.rotate_right(8);
+    let d1 = d.rotate_right(8);
+    let w2 = w1.rotate_right(8);
+    let w3 = w2.rotate_right(8);
+    (d ^ (w1 ^ d1) ^ w2 ^ w3).to_le_bytes()
 }
 
 // 5.1.3: each column mixed.
 fn mix_columns(s: [[u8; 4]; 4]) -> [[u8; 4]; 4]
     ensures { result ≡ mix_columns s }
 {
-    let c0 = mix_column(s[0]);
-    let c1 = mix_column(s[1]);
-    let c2 = mix_column(s[2]);
-    let c3 = mix_column(s[3]);
-    [c0, c1, c2, c3]
+    [
+        mix_column(s[0]),
+        mix_column(s[1]),
+        mix_column(s[2]),
+        mix_column(s[3]),
+    ]
 }
 
-// 5.1.4: the state and a round key, added.
+// 5.1.4: the state and a round key, added. The four calls are written out, since no proof was found over `array::from_fn`.
 fn add_round_key(s: [[u8; 4]; 4], key: [u8; 16]) -> [[u8; 4]; 4]
     ensures { result ≡ add_round_key s (columns key) }
 {
     let k = columns(key);
-    let c0 = xor_words(s[0], k[0]);
-    let c1 = xor_words(s[1], k[1]);
-    let c2 = xor_words(s[2], k[2]);
-    let c3 = xor_words(s[3], k[3]);
-    [c0, c1, c2, c3]
+    [
+        xor_words(s[0], k[0]),
+        xor_words(s[1], k[1]),
+        xor_words(s[2], k[2]),
+        xor_words(s[3], k[3]),
+    ]
 }
 
 // 5.2, four words at once: a round key from the one before. `rcon` is the first byte of Rcon, the others being 0.
-fn next_round_key(sub: &[u8; 256], key: [u8; 16], rcon: u8) -> [u8; 16]
-    requires { Tabled 256 s_box sub.now }
+fn next_round_key(key: [u8; 16], rcon: u8) -> [u8; 16]
     ensures { columns result ≡ next_round_key (columns key) rcon }
 {
     let w = columns(key);
     let last = w[3];
     // RotWord, then SubWord
-    let t = sub_word(sub, [last[1], last[2], last[3], last[0]]);
+    let t = sub_word([last[1], last[2], last[3], last[0]]);
     let temp = xor_words(t, [rcon, 0, 0, 0]);
     let w0 = xor_words(w[0], temp);
     let w1 = xor_words(w[1], w0);
@@ -222,15 +172,15 @@ fn next_round_key(sub: &[u8; 256], key: [u8; 16], rcon: u8) -> [u8; 16]
 }
 
 // 5.2: the key, which is round key 0, and ten round keys more, each from the one before.
-fn key_expansion(sub: &[u8; 256], key: [u8; 16]) -> [[u8; 16]; 11]
-    requires { Tabled 256 s_box sub.now }
+fn key_expansion(key: [u8; 16]) -> [[u8; 16]; 11]
     ensures { RoundKeys 11 key result }
 {
     let mut keys = [[0u8; 16]; 11];
     keys[0] = key;
     let mut rcon: u8 = 1;
+    // An index, since a round key is made from the one before it in the same array.
     for round in 0..10 {
-        let next = next_round_key(sub, keys[round], rcon);
+        let next = next_round_key(keys[round], rcon);
         keys[round + 1] = next;
         rcon = xtimes(rcon);
     }
@@ -238,21 +188,20 @@ fn key_expansion(sub: &[u8; 256], key: [u8; 16]) -> [[u8; 16]; 11]
 }
 
 // 5.1: a round, as all are but the last.
-fn one_round(sub: &[u8; 256], s: [[u8; 4]; 4], key: [u8; 16]) -> [[u8; 4]; 4]
-    requires { Tabled 256 s_box sub.now }
+fn one_round(s: [[u8; 4]; 4], key: [u8; 16]) -> [[u8; 4]; 4]
     ensures { result ≡ add_round_key (mix_columns (shift_rows (sub_bytes s))) (columns key) }
 {
-    add_round_key(mix_columns(shift_rows(sub_bytes(sub, s))), key)
+    add_round_key(mix_columns(shift_rows(sub_bytes(s))), key)
 }
 
-// 5.1: rounds 1 to 9, from the state to which round key 0 was added.
-fn rounds(sub: &[u8; 256], keys: &[[u8; 16]; 11], first: [[u8; 4]; 4]) -> [[u8; 4]; 4]
-    requires { Tabled 256 s_box sub.now }
+// 5.1: rounds 1 to 9, from the state to which round key 0 was added. A round's result has a name of its own, since `s = one_round(s, ..)` is
+// refused in a loop.
+fn rounds(keys: &[[u8; 16]; 11], first: [[u8; 4]; 4]) -> [[u8; 4]; 4]
     ensures { result ≡ rounds (key_of keys.now) first 9 }
 {
     let mut s = first;
-    for round in 1..10 {
-        let t = one_round(sub, s, keys[round]);
+    for key in &keys[1..10] {
+        let t = one_round(s, *key);
         s = t;
     }
     s
@@ -262,10 +211,9 @@ fn rounds(sub: &[u8; 256], keys: &[[u8; 16]; 11], first: [[u8; 4]; 4]) -> [[u8; 
 pub fn encrypt(key: [u8; 16], block: [u8; 16]) -> [u8; 16]
     ensures { result ≡ cipher key block }
 {
-    let sub = sbox();
-    let keys = key_expansion(&sub, key);
+    let keys = key_expansion(key);
     let first = add_round_key(columns(block), keys[0]);
-    let s = rounds(&sub, &keys, first);
-    let t = add_round_key(shift_rows(sub_bytes(&sub, s)), keys[10]);
+    let s = rounds(&keys, first);
+    let t = add_round_key(shift_rows(sub_bytes(s)), keys[10]);
     bytes(t)
 }

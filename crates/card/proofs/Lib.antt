@@ -1,4 +1,3 @@
 pub mod ReadLaws
 pub mod StartLaws
 pub mod TurnLaws
-pub mod AnchorLaws

@@ -1,5 +1,5 @@
--- What the code of start, rebuild and the start of n ticks comes to, over plain lists and numbers: one law for each answer, in the order
--- of the source. Assumes nothing.
+-- What the code of start, rebuild and the start of n ticks comes to, over plain lists and numbers, in the order of the source. Assumes
+-- nothing.
 use mathlib.Core.Path.{◌≡◌, refl, sym, ap, ◌∙◌}
 use mathlib.Core.Bool.{Bool, true, false, cond, ◌||◌, not, true≢false}
 use mathlib.Core.Logic.{◌⊎◌, inl, inr}
@@ -11,13 +11,12 @@ use borrow.Author.Tests.{lt-ltb, le-ltb, eq-eqb, ne_eqb}
 use lib.Dec.{T, eqb, ltb}
 use lib.ListN.{length, take, drop, replicate, length-map, length-replicate, replicate-append-replicate}
 use lib.Pow.{pow_pos}
-use lib.Seq.{take-add, take_at, drop_at, length-take-le}
+use lib.Seq.{take-add, take_at, drop_at}
 use Rattle.records.specs.Chains.{chain_length}
 use Rattle.levels.specs.Levels.{allowed, level, first_round, allowed_range, level_small, first_round_pays}
 use Rattle.lists.specs.Values.{joined}
 use Rattle.lists.specs.Wide.{wide_map, joined_wide}
 use Rattle.lists.specs.Writing.{over, over_length, over_taken}
-use Rattle.oneway.specs.Laws.{known_byte}
 use Rattle.oneway.specs.Step.{known, step}
 use Rattle.oneway.specs.declared.Chain.{Chain}
 use Rattle.pebbling.specs.Demands.{positions_fall_strictly, never_more_than_slots}
@@ -25,21 +24,18 @@ use Rattle.pebbling.specs.Len.{lt_or_le}
 use Rattle.pebbling.specs.PositionList.{positions_must_say, positions_list, Positioned}
 use Rattle.pebbling.specs.Recursion.{chain, positions, schedule as hashes_of, slots as slots_of, work}
 use Rattle.pebbling.specs.Slots.{slots_small}
-use Rattle.pebbling.specs.declared.PositionsAnswer.TheVariants.{Listed, Refused as NoList}
+use Rattle.std.specs.Prelude.{Err, Ok, Result}
 use Rattle.refill.specs.Refill.{Fillable, Refilled}
 use Rattle.refusals.specs.Numbers.{said_of, said_tells, not_refused}
 use Rattle.refusals.specs.declared.Refusal.{Refusal}
-use Rattle.refusals.specs.declared.Refusal.TheVariants.{UnknownFunction, TooManyTicks, UnknownSchedule, WrongLength, BadRecord, BadTicks}
+use Rattle.refusals.specs.declared.Refusal.TheVariants.{TooManyTicks, UnknownSchedule, WrongLength, BadRecord}
 use Rattle.card.specs.declared.Head.{Head}
-use Rattle.card.specs.declared.Inspected.{Inspected}
-use Rattle.card.specs.declared.Inspected.TheVariants.{Refused, Card}
-use Rattle.card.specs.declared.Answer.{Answer}
-use Rattle.card.specs.declared.Answer.TheVariants.{Done, Refused as NotDone}
-use Rattle.card.specs.Record.{head_at, width_of, slots_size, size, head_bytes, filled, card_bytes}
-use Rattle.card.specs.Refused.{passing, numbers, room_for, start_judged, in_range, rebuild_judged, start_ticks_judged}
+use Rattle.card.specs.Record.{head_at, chain_of, width_of, slots_size, size, head_bytes, filled, card_bytes}
+use Rattle.refusals.specs.Passing.{passing}
+use Rattle.card.specs.Refused.{numbers, room_for, start_judged, in_range, rebuild_judged, start_ticks_judged}
 use Rattle.card.specs.Promises.{judged_says, judged_card, start_must_say, start_card, Started, elements_held, rebuild_must_say, rebuild_card, Rebuilt, start_ticks_must_say, start_ticks_card, StartedTicks}
-use Rattle.card.specs.Sound.{Numbered, roomy, rebuild_judged_lem}
-use Rattle.card.specs.Steps.{Puttable, elements_at, Beginning, Layable, Begun}
+use Rattle.card.specs.Sound.{Numbered, rebuild_judged_lem}
+use Rattle.card.specs.Steps.{elements_at, Beginning, Layable, Begun}
 use Rattle.card.proofs.ReadLaws.{first_slot}
 
 -- ---- slots that were made as zeros
@@ -68,39 +64,21 @@ slots_filled head vs front slots n m e j a b t d =
     let s : take n slots ≡ take p slots ++ take (n - p) (drop p slots) = ap (λ (x : ℕ). take x slots) (sym q) ∙ take-add p (n - p) slots in
     s ∙ rw (t, d, zeros_behind p n m a b, j, ← e) refl
 
--- ---- room_for
-
-module _ (seed card : List ℕ) (head : Head) (w : ℕ) (wide : w ≡ width_of head) where
-  pub seed_strange : (length seed ≡ w → ⊥) → Refused WrongLength ≡ room_for seed card head
-  unfolding room_for
-  seed_strange n = rw (ne_eqb (length seed) (width_of head) (λ e. n (e ∙ sym wide))) refl
-
-  module _ (l : length seed ≡ w) (n : ℕ) (slotted : (n ≡ slots_size head) × (n ≤ 608)) where
-    whole : 16 + n ≡ size head
-    unfolding size
-    whole = ap (λ (x : ℕ). 16 + x) slotted.0
-
-    pub card_short : length card < 16 + n → Refused WrongLength ≡ room_for seed card head
-    unfolding room_for
-    card_short s = rw (eq-eqb (length seed) (width_of head) (l ∙ wide), lt-ltb (length card) (size head) (omega (arith, whole))) refl
-
-    pub card_long : 16 + n ≤ length card → Card head ≡ room_for seed card head
-    unfolding room_for
-    card_long s = rw (eq-eqb (length seed) (width_of head) (l ∙ wide), le-ltb (length card) (size head) (omega (arith, whole))) refl
-
 -- ---- lay
 
-module _ (head : Head) (held seed card : List ℕ) (ok : Layable head held seed card) (n : ℕ) (slotted : (n ≡ slots_size head) × (n ≤ 608)) where
-  pub refill_asks : Fillable (record { function = head.function }) seed held (replicate 608 0)
+module _ (head : Head) (nr : Numbered head) (held seed card : List ℕ) (ok : Layable head held seed card) (n : ℕ) (slotted : (n ≡ slots_size head) × (n ≤ 608)) (c : Chain)
+    (own : c ≡ chain_of head) where
+  pub refill_asks : Fillable c seed held (replicate 608 0)
   refill_asks =
       let z : ℕ = 0 in
-      record {
-        known = known_holds (known head.function) ok.beginning.numbered.known;
+      rw own
+      (record {
+        known = known_holds (known head.function) nr.known;
         seeded = ok.seeded;
         top = ok.beginning.top;
         falls = ok.beginning.falls;
         room = omega (arith, ok.beginning.few, slotted.0, slotted.1, length-replicate 608 z);
-      }
+      })
 
   abbrev vs : List (List ℕ)
   vs = elements_at held seed head
@@ -108,31 +86,16 @@ module _ (head : Head) (held seed card : List ℕ) (ok : Layable head held seed 
   -- a value for each position
   sized : length (joined vs) ≡ width_of head * length held
   sized =
-      let c : Chain = record { function = head.function } in
-      joined_wide (width_of head) vs (wide_map (width_of head) (chain (step c) seed) (chain_length c seed ok.seeded) held)
-      ∙ ap (λ (m : ℕ). width_of head * m) (length-map held (chain (step c) seed))
+      let d = chain_of head in
+      joined_wide (width_of head) vs (wide_map (width_of head) (chain (step d) seed) (chain_length d seed ok.seeded) held)
+      ∙ ap (λ (m : ℕ). width_of head * m) (length-map held (chain (step d) seed))
 
   fits : length (joined vs) ≤ n
   fits = omega (arith, sized, ok.beginning.few, slotted.0)
 
-  module _ (hashes : ℕ) (slots : List ℕ) (refilled : Refilled (record { function = head.function }) seed held (replicate 608 0) hashes slots) where
-    made : length slots ≡ 608
-    made =
-        let z : ℕ = 0 in
-        ap length refilled.leaves ∙ over_length (joined vs) (replicate 608 z) (omega (arith, fits, slotted.1, length-replicate 608 z)) ∙ length-replicate 608 z
-
-    pub lay_within : n ≤ length slots
-    lay_within = omega (arith, made, slotted.1)
-
-    pub lay_asks : Puttable head (take n slots) card
-    unfolding size
-    lay_asks =
-        record {
-          function = known_byte head.function ok.beginning.numbered.known;
-          schedule = omega (arith, ok.beginning.numbered.schedule);
-          k = omega (arith, ok.beginning.numbered.small);
-          room = omega (arith, length-take-le n slots lay_within, ok.long, slotted.0);
-        }
+  module _ (hashes : ℕ) (slots : List ℕ) (refilled : Refilled c seed held (replicate 608 0) hashes slots) where
+    done : Refilled (chain_of head) seed held (replicate 608 0) hashes slots
+    done = rw own at refilled
 
     pub laid : (card' : List ℕ) → card' ≡ over (head_bytes head ++ take n slots) card → card' ≡ over (card_bytes head (elements_at held seed head)) card
     unfolding card_bytes
@@ -141,64 +104,37 @@ module _ (head : Head) (held seed card : List ℕ) (ok : Layable head held seed 
         let front = joined vs in
         let s : take n slots ≡ filled head vs =
         slots_filled head vs front slots n 608 slotted.0 refl fits slotted.1
-        (over_taken front (replicate 608 z) slots (length front) refl refilled.leaves)
-        (ap (drop (length front)) refilled.leaves ∙ drop_at front (drop (length front) (replicate 608 z)) (length front) refl) in
+        (over_taken front (replicate 608 z) slots (length front) refl done.leaves)
+        (ap (drop (length front)) done.leaves ∙ drop_at front (drop (length front) (replicate 608 z)) (length front) refl) in
         e ∙ rw s refl
 
--- ---- begin
+-- ---- start: its numbers pass, and the seed alone is held, at position 0
 
-module _ (head : Head) (held seed card : List ℕ) (judged : Inspected) (e : judged ≡ room_for seed card head) where
-  pub lay_beginning : Beginning head held → (h : Head) → judged ≡ Card h → Layable h held seed card
-  lay_beginning b h q =
-      let r = roomy head seed card h (sym e ∙ q) in
-      rw (← r.0) (record { beginning = b; seeded = r.1.seeded; long = r.1.long })
+pub started_begun : (function k schedule : ℕ) (seed card : List ℕ) (h : Head) (answer : Result (Unit {0}) Refusal) (card' : List ℕ)
+    → numbers (head_at function k schedule 1) ≡ Ok h → Begun h (0 ∷ []) seed card answer card' → Started function k schedule seed card answer card'
+unfolding start_must_say start_card start_judged chain
+started_begun function k schedule seed card h answer card' q b = record { says = rw q b.says; leaves = rw q b.leaves }
 
-  pub begun_refused : (refusal : Refusal) → judged ≡ Refused refusal → Begun head held seed card (NotDone refusal) card
-  begun_refused refusal q = record { says = rw (← e, q) refl; leaves = rw (← e, q) refl }
-
-  pub begun_done : (h : Head) (card' : List ℕ) → judged ≡ Card h → card' ≡ over (card_bytes h (elements_at held seed h)) card
-      → Begun head held seed card Done card'
-  begun_done h card' q l = record { says = rw (← e, q) refl; leaves = rw (← e, q) l }
-
--- ---- start
-
-module _ (function k schedule : ℕ) (seed card : List ℕ) (checked : Inspected) (e : checked ≡ numbers (head_at function k schedule 1)) where
-  judged : passing checked (room_for seed card) ≡ start_judged (head_at function k schedule 1) seed card
-  unfolding start_judged
-  judged = rw (← e) refl
-
-  pub started_refused : (refusal : Refusal) → checked ≡ Refused refusal → Started function k schedule seed card (NotDone refusal) card
-  unfolding start_must_say start_card
-  started_refused refusal q = record { says = rw (← judged, q) refl; leaves = rw (← judged, q) refl }
-
-  pub started_begun : (h : Head) (answer : Answer) (card' : List ℕ) → checked ≡ Card h → Begun h (0 ∷ []) seed card answer card'
-      → Started function k schedule seed card answer card'
-  unfolding start_must_say start_card chain
-  started_begun h answer card' q b = record { says = rw (← judged, q) b.says; leaves = rw (← judged, q) b.leaves }
-
--- the seed alone, at position 0
-pub seed_begins : (head : Head) → Numbered head → Beginning head (0 ∷ [])
-seed_begins head n =
-    record { numbered = n; top = 1; falls = (omega arith, omega arith); few = omega (arith, first_slot head) }
+pub seed_begins : (head : Head) → Beginning head (0 ∷ [])
+seed_begins head =
+    record { top = 1; falls = (omega arith, omega arith); few = omega (arith, first_slot head) }
 
 -- ---- rebuild
 
-module _ (function k s r : ℕ) (seed card : List ℕ) where
+module _ (function k s r : ℕ) where
   abbrev head : Head
   head = head_at function k s r
 
-  pub rebuilt_unknown : (x : Bool) → x ≡ known function → x ≡ false → Rebuilt function k s r seed card (NotDone UnknownFunction) card
-  unfolding rebuild_must_say rebuild_card rebuild_judged numbers
-  rebuilt_unknown x e f = record { says = rw (← e, f) refl; leaves = rw (← e, f) refl }
+  -- a refusal of the tests up to the round is one of all of them
+  early : (seed card : List ℕ) (refusal : Refusal) → passing (numbers head) in_range ≡ Err refusal → rebuild_judged head seed card ≡ Err refusal
+  unfolding rebuild_judged
+  early seed card refusal e = go (numbers head) e
+    where
+      go : (seen : Result Head Refusal) → passing seen in_range ≡ Err refusal → passing seen (λ h. passing (in_range h) (room_for seed card)) ≡ Err refusal
+      go (Err x) q = q
+      go (Ok h) q = rw q refl
 
-  module _ (x : Bool) (e : x ≡ known function) (t : x ≡ true) (list : List ℕ) (long : length list ≡ 38) where
-    is_known : known function ≡ true
-    is_known = sym e ∙ t
-
-    refused : (refusal : Refusal) → rebuild_judged head seed card ≡ Refused refusal → Rebuilt function k s r seed card (NotDone refusal) card
-    unfolding rebuild_must_say rebuild_card
-    refused refusal q = record { says = rw q refl; leaves = rw q refl }
-
+  module _ (is_known : known function ≡ true) (list : List ℕ) (long : length list ≡ 38) where
     -- the position list makes the tests of k, schedule and round: it is refused as the rebuild is, or all of them are passed
     module _ (said : List ℕ) (says : said ≡ positions_must_say k s r list) where
       record Tested : Type 0 where
@@ -208,10 +144,10 @@ module _ (function k s r : ℕ) (seed card : List ℕ) where
         listed : said ≡ 0 ∷ length (positions (hashes_of s) k r 0) ∷ work (hashes_of s) k r ∷ []
 
       abbrev RefusedAlike : Type 0
-      RefusedAlike = (refusal : Refusal) × (said ≡ said_of refusal) × (rebuild_judged head seed card ≡ Refused refusal)
+      RefusedAlike = (refusal : Refusal) × (said ≡ said_of refusal) × (passing (numbers head) in_range ≡ Err refusal)
 
       tested : RefusedAlike ⊎ Tested
-      unfolding positions_must_say rebuild_judged numbers in_range
+      unfolding positions_must_say numbers in_range
       tested = go (lt_or_le 20 k) (lt_or_le 3 s) (eq-zero-or-pos r) (lt_or_le (2 ^ suc k) r)
         where
           go : (20 < k) ⊎ (k ≤ 20) → (3 < s) ⊎ (s ≤ 3) → (r ≡ 0) ⊎ (0 < r) → (2 ^ suc k < r) ⊎ (r ≤ 2 ^ suc k) → RefusedAlike ⊎ Tested
@@ -241,14 +177,18 @@ module _ (function k s r : ℕ) (seed card : List ℕ) where
                 listed = says ∙ rw (le-ltb 20 k a, le-ltb 3 s b, ne_eqb r 0 (λ e. omega arith), le-ltb (2 ^ suc k) r d, le-ltb (length list) n few) refl;
               })
 
-    pub rebuilt_refused : (refusal : Refusal) (list' : List ℕ) → Positioned k s r list (NoList refusal) list' → Rebuilt function k s r seed card (NotDone refusal) card
-    rebuilt_refused refusal list' l = go (tested (said_of refusal) l.says)
+    pub rebuilt_refused : (seed card : List ℕ) (refusal : Refusal) (list' : List ℕ) → Positioned k s r list (Err refusal) list'
+        → Rebuilt function k s r seed card (Err refusal) card
+    unfolding rebuild_must_say rebuild_card
+    rebuilt_refused seed card refusal list' l = go (tested (said_of refusal) l.says)
       where
-        go : RefusedAlike (said_of refusal) l.says ⊎ Tested (said_of refusal) l.says → Rebuilt function k s r seed card (NotDone refusal) card
-        go (inl (other, same, q)) = refused refusal (q ∙ ap Refused (sym (said_tells refusal other same)))
+        go : RefusedAlike (said_of refusal) l.says ⊎ Tested (said_of refusal) l.says → Rebuilt function k s r seed card (Err refusal) card
+        go (inl (other, same, q)) =
+            let j = early seed card refusal (q ∙ ap Err (sym (said_tells refusal other same))) in
+            record { says = rw j refl; leaves = rw j refl }
         go (inr t) = absurd (not_refused refusal _ t.listed)
 
-    module _ (count hashes : ℕ) (list' : List ℕ) (l : Positioned k s r list (Listed count hashes) list') where
+    module _ (count hashes : ℕ) (list' : List ℕ) (l : Positioned k s r list (Ok (record { count = count; hashes = hashes })) list') where
       abbrev held : List ℕ
       held = positions (hashes_of s) k r 0
 
@@ -279,20 +219,23 @@ module _ (function k s r : ℕ) (seed card : List ℕ) where
       pub list_within : count ≤ length list'
       list_within = omega (arith, counted, few, ap length left, over_length held list (omega (arith, few, long)), long)
 
+      pub rebuilt_numbered : Numbered head
+      rebuilt_numbered = passed.numbered
+
       pub rebuilt_begins : (x : ℕ) → Beginning (head_at function k s x) (take count list')
       unfolding slots_size
       rebuilt_begins x =
           rw there
           (record {
-            numbered = record { known = is_known; small = passed.numbered.small; schedule = passed.numbered.schedule };
             top = 2 ^ k;
             falls = positions_fall_strictly s passed.numbered.schedule k r;
             few = mul-le-mul_left (width_of head) fits_slots;
           })
 
-      pub rebuilt_begun : (answer : Answer) (card' : List ℕ) → Begun head (take count list') seed card answer card' → Rebuilt function k s r seed card answer card'
+      pub rebuilt_begun : (seed card : List ℕ) (answer : Result (Unit {0}) Refusal) (card' : List ℕ) → Begun head (take count list') seed card answer card'
+          → Rebuilt function k s r seed card answer card'
       unfolding rebuild_must_say rebuild_card room_for
-      rebuilt_begun answer card' b =
+      rebuilt_begun seed card answer card' b =
           let j = rebuild_judged_lem head seed card passed.numbered passed.from passed.upto in
           record {
             says = b.says ∙ sym (ap judged_says j);
@@ -300,53 +243,30 @@ module _ (function k s r : ℕ) (seed card : List ℕ) where
           }
         where
           same_laid : (short : Bool)
-              → judged_card (elements_at held seed) card (cond short (Refused WrongLength) (Card head))
-              ≡ judged_card (elements_held seed) card (cond short (Refused WrongLength) (Card head))
+              → judged_card (elements_at held seed) card (cond short (Err WrongLength) (Ok head))
+              ≡ judged_card (elements_held seed) card (cond short (Err WrongLength) (Ok head))
           same_laid true = refl
           same_laid false = refl
 
 -- ---- start of n ticks
 
-module _ (function n s : ℕ) (seed card : List ℕ) (x : Bool) (e : x ≡ known function) where
-  ticks_refused : (refusal : Refusal) → start_ticks_judged function n s seed card ≡ Refused refusal → StartedTicks function n s seed card (NotDone refusal) card
-  unfolding start_ticks_must_say start_ticks_card
-  ticks_refused refusal q = record { says = rw q refl; leaves = rw q refl }
+pub ticks_rebuilt : (function n s : ℕ) (seed card : List ℕ) → known function ≡ true → s ≤ 3 → allowed n ≡ true
+    → (k r : ℕ) (answer : Result (Unit {0}) Refusal) (card' : List ℕ) → k ≡ level n → r ≡ 2 ^ suc k - n → Rebuilt function k s r seed card answer card'
+    → StartedTicks function n s seed card answer card'
+unfolding start_ticks_must_say start_ticks_card rebuild_must_say rebuild_card
+ticks_rebuilt function n s seed card is_known a u k r answer card' l f b =
+    record { says = b.says ∙ ap judged_says same; leaves = b.leaves ∙ ap (judged_card (elements_held seed) card) same }
+  where
+    round : r ≡ first_round n
+    round = f ∙ unfold first_round in rw l refl
 
-  pub ticks_1 : x ≡ false → StartedTicks function n s seed card (NotDone UnknownFunction) card
-  unfolding start_ticks_judged
-  ticks_1 f = ticks_refused UnknownFunction (rw (← e, f) refl)
-
-  module _ (t : x ≡ true) where
-    pub ticks_3 : 3 < s → StartedTicks function n s seed card (NotDone UnknownSchedule) card
-    unfolding start_ticks_judged
-    ticks_3 a = ticks_refused UnknownSchedule (rw (← e, t, lt-ltb 3 s a) refl)
-
-    module _ (a : s ≤ 3) (y : Bool) (q : y ≡ allowed n) where
-      pub ticks_10 : y ≡ false → StartedTicks function n s seed card (NotDone BadTicks) card
-      unfolding start_ticks_judged
-      ticks_10 f = ticks_refused BadTicks (rw (← e, t, le-ltb 3 s a, ← q, f) refl)
-
-      module _ (u : y ≡ true) where
-        pub ticks_range : (0 < n) × (n ≤ 1048576)
-        ticks_range = allowed_range n (sym q ∙ u)
-
-        pub ticks_rebuilt : (k r : ℕ) (answer : Answer) (card' : List ℕ) → k ≡ level n → r ≡ 2 ^ suc k - n → Rebuilt function k s r seed card answer card'
-            → StartedTicks function n s seed card answer card'
-        unfolding start_ticks_must_say start_ticks_card rebuild_must_say rebuild_card
-        ticks_rebuilt k r answer card' l f b =
-            record { says = b.says ∙ ap judged_says same; leaves = b.leaves ∙ ap (judged_card (elements_held seed) card) same }
-          where
-            round : r ≡ first_round n
-            round = f ∙ unfold first_round in rw l refl
-
-            same : rebuild_judged (head_at function k s r) seed card ≡ start_ticks_judged function n s seed card
-            same =
-                let some = ticks_range.0 in
-                let few = ticks_range.1 in
-                let first = first_round_pays n some few in
-                rw (l, round)
-                (rebuild_judged_lem (head_at function (level n) s (first_round n)) seed card
-                (record { known = sym e ∙ t; small = level_small n few; schedule = a })
-                (omega (arith, first.0, pow_pos (level n)))
-                (omega (arith, first.1))
-                ∙ unfold start_ticks_judged in rw (← e, t, le-ltb 3 s a, ← q, u) refl)
+    same : rebuild_judged (head_at function k s r) seed card ≡ start_ticks_judged function n s seed card
+    same =
+        let range = allowed_range n u in
+        let first = first_round_pays n range.0 range.1 in
+        rw (l, round)
+        (rebuild_judged_lem (head_at function (level n) s (first_round n)) seed card
+        (record { known = is_known; small = level_small n range.1; schedule = a })
+        (omega (arith, first.0, pow_pos (level n)))
+        (omega (arith, first.1))
+        ∙ unfold start_ticks_judged in rw (is_known, le-ltb 3 s a, u) refl)

@@ -3,34 +3,27 @@ use mathlib.Core.Path.{◌≡◌, refl, sym, ap, ◌∙◌}
 use mathlib.Core.List.{List, [], ◌∷◌, ◌++◌, append-nil}
 use Prim.Native.Nat.{ℕ, zero, suc, ◌+◌, ◌-◌, ◌^◌, ◌≤◌, ◌<◌}
 use native.Mathlib.Nat.{mul-le-mul_left}
-use native.Mathlib.Numerals.{add-one}
 use native.Mathlib.Omega.{arith}
-use borrow.Author.Tests.{eq-eqb, ne_eqb, lt-ltb}
 use lib.ListN.{length, take, drop, replicate}
-use lib.Pow.{pow_mono}
 use lib.Seq.{length-take-le}
-use Rattle.oneway.specs.Laws.{known_byte}
 use Rattle.lists.specs.Parts.{part_length}
 use Rattle.lists.specs.Values.{values, values_length, values_take, joined, joined_values}
 use Rattle.lists.specs.Writing.{over}
 use Rattle.oneway.specs.Step.{known, step}
+use Rattle.oneway.specs.declared.Chain.{Chain}
 use Rattle.pebbling.specs.Demands.{preparing_rounds_are_quiet, paying_rounds_pay, first_is_put_out, never_more_than_slots}
 use Rattle.pebbling.specs.Promises.{Power, Left}
 use Rattle.pebbling.specs.Recursion.{schedule, positions, tick, round, slots}
 use Rattle.pebbling.specs.Turns.{tick_none, tick_first}
-use Rattle.refusals.specs.declared.Refusal.{Refusal}
-use Rattle.refusals.specs.declared.Refusal.TheVariants.{WrongLength, Spent}
 use Rattle.slots.specs.Moves.{Advancing, Advanced}
 use Rattle.card.specs.declared.Head.{Head}
-use Rattle.card.specs.declared.Inspected.{Inspected}
-use Rattle.card.specs.declared.Inspected.TheVariants.{Refused, Card}
-use Rattle.card.specs.declared.RoundAnswer.{RoundAnswer}
-use Rattle.card.specs.declared.RoundAnswer.TheVariants.{Quiet, Tick, Refused as NoRound}
+use Rattle.std.specs.Prelude.{Ok}
+use Rattle.card.specs.declared.Outcome.{Outcome}
+use Rattle.card.specs.declared.Outcome.TheVariants.{Quiet, Tick}
 use Rattle.card.specs.Record.{chain_of, width_of, held_count, held_size, slots_size, size, head_bytes, filled, card_bytes, held_values}
-use Rattle.card.specs.Refused.{later, inspect_of, ready, round_judged}
-use Rattle.card.specs.Promises.{round_must_say, round_card, round_out, Rounded}
-use Rattle.card.specs.Sound.{Numbered, Sound, held_later, ready_passes}
-use Rattle.card.specs.Steps.{Puttable, Running, Turned, Payable, Paid}
+use Rattle.card.specs.Refused.{later, ready}
+use Rattle.card.specs.Sound.{Numbered, held_later, ready_passes}
+use Rattle.card.specs.Steps.{Running, Turned, Payable, Paid}
 use Rattle.card.proofs.ReadLaws.{first_slot}
 use Rattle.card.proofs.StartLaws.{known_holds, slots_filled}
 
@@ -45,7 +38,7 @@ unfolding values joined
 first_value w zero slots h = absurd (omega arith)
 first_value w (suc n) slots h = append-nil (take w slots)
 
-module _ (head : Head) (hashes : ℕ) (slots out : List ℕ) (ok : Payable head slots out) where
+module _ (head : Head) (nr : Numbered head) (hashes : ℕ) (slots out : List ℕ) (ok : Payable head slots out) where
   abbrev k : ℕ
   k = head.k
 
@@ -75,7 +68,7 @@ module _ (head : Head) (hashes : ℕ) (slots out : List ℕ) (ok : Payable head 
         let c : ℕ = 2 ^ suc k - r - 1 in
         let s : r + suc c ≡ 2 ^ suc k = omega (arith, ok.before) in
         let n : 0 < held_count head =
-        some (positions t k r 0) c (first_is_put_out head.schedule ok.schedule k r c paying s ∙ paying_rounds_pay k r c paying s) in
+        some (positions t k r 0) c (first_is_put_out head.schedule nr.schedule k r c paying s ∙ paying_rounds_pay k r c paying s) in
         rw (tick_first t k r (values (width_of head) (held_count head) slots) paying ok.before (values_length (width_of head) (held_count head) slots))
         (first_value (width_of head) (held_count head) slots n ∙ rw e refl)
 
@@ -102,7 +95,7 @@ module _ (head : Head) (card out : List ℕ) (ok : Running head card out) where
   unfolding held_size slots_size held_count
   held_fits = mul-le-mul_left (width_of head) (never_more_than_slots head.schedule nr.schedule head.k head.round.0 ok.sound.upto)
 
-  judged : ready out head ≡ Card head
+  judged : ready out head ≡ Ok head
   judged = ready_passes head out ok.sound.numbered ok.before ok.wide
 
   module _ (n : ℕ) (slotted : (n ≡ slots_size head) × (n ≤ 608)) where
@@ -116,11 +109,12 @@ module _ (head : Head) (card out : List ℕ) (ok : Running head card out) where
     old_length : length old ≡ n
     old_length = part_length 16 (16 + n) card (omega arith) end_in ∙ omega arith
 
-    pub advance_asks : (scratch : List ℕ) → length scratch ≡ 608
-        → Advancing (chain_of head) head.schedule head.k head.round.0 (take (16 + n - 16) (drop 16 card)) scratch
+    pub advance_asks : (c : Chain) → c ≡ chain_of head → (scratch : List ℕ) → length scratch ≡ 608
+        → Advancing c head.schedule head.k head.round.0 (take (16 + n - 16) (drop 16 card)) scratch
     unfolding held_size held_count
-    advance_asks scratch e =
-        record {
+    advance_asks c own scratch e =
+        rw own
+        (record {
           known = known_holds (known head.function) nr.known;
           schedule = nr.schedule;
           small = nr.small;
@@ -128,39 +122,27 @@ module _ (head : Head) (card out : List ℕ) (ok : Running head card out) where
           before = ok.before;
           enough = omega (arith, held_fits, slotted.0, old_length);
           room = omega (arith, later_fits, slotted.0, slotted.1);
-        }
+        })
 
     pub pay_asks : Payable head (take (16 + n - 16) (drop 16 card)) out
     pay_asks =
         record {
-          schedule = nr.schedule;
-          small = nr.small;
           before = ok.before;
           first = omega (arith, first_slot head, slotted.0, old_length);
           wide = ok.wide;
         }
 
-    pub next_fits : head.round.0 < 4294967295
-    next_fits = omega (arith, ok.before, pow_mono {i = suc head.k} {j = 21} (omega (arith, nr.small)))
+    module _ (c : Chain) (own : c ≡ chain_of head) (scratch next : List ℕ) (rd wr hs : ℕ) (kept : length next ≡ 608)
+        (advanced : Advanced c head.schedule head.k head.round.0 (take (16 + n - 16) (drop 16 card)) scratch rd wr hs next) where
+      moved : Advanced (chain_of head) head.schedule head.k head.round.0 (take (16 + n - 16) (drop 16 card)) scratch rd wr hs next
+      moved = rw own at advanced
 
-    module _ (scratch next : List ℕ) (rd wr hs : ℕ) (kept : length next ≡ 608)
-        (moved : Advanced (chain_of head) head.schedule head.k head.round.0 (take (16 + n - 16) (drop 16 card)) scratch rd wr hs next) where
       written : wr ≡ held_size (later head)
       unfolding held_size held_count
       written = moved.writes
 
       pub never_full : n < wr → ⊥
       never_full l = omega (arith, written, later_fits, slotted.0)
-
-      pub put_asks : (h : Head) → h ≡ later head → Puttable h (take n next) card
-      put_asks h e =
-          rw e
-          (record {
-            function = known_byte head.function nr.known;
-            schedule = omega (arith, nr.schedule);
-            k = omega (arith, nr.small);
-            room = omega (arith, end_in, length-take-le n next (omega (arith, slotted.1)));
-          })
 
       values_before : values (width_of head) (held_count head) old ≡ held_values head card
       unfolding held_values held_size
@@ -186,50 +168,12 @@ module _ (head : Head) (card out : List ℕ) (ok : Running head card out) where
           (ap (λ (x : ℕ). take x next) l)
           (ap (λ (x : ℕ). drop x next) l ∙ moved.stays ∙ rw (l, z) refl)
 
-      pub ran : scratch ≡ replicate 608 0 → (answer : RoundAnswer) (h : Head) (card' out' : List ℕ) → Paid head hs (take (16 + n - 16) (drop 16 card)) out answer out'
-          → h ≡ later head → card' ≡ over (head_bytes h ++ take n next) card → Turned head card out answer card' out'
+      pub ran : scratch ≡ replicate 608 0 → (outcome : Outcome) (h : Head) (card' out' : List ℕ) → Paid head hs (take (16 + n - 16) (drop 16 card)) out outcome out'
+          → h ≡ later head → card' ≡ over (head_bytes h ++ take n next) card → Turned head card out (Ok outcome) card' out'
       unfolding card_bytes
-      ran z answer h card' out' p e q =
+      ran z outcome h card' out' p e q =
           record {
             says = p.says ∙ rw (judged, moved.works) refl;
             leaves = q ∙ rw (e, slots_after z, judged) refl;
             writes = p.writes ∙ rw (values_before, judged) refl;
           }
-
--- ---- turn
-
-module _ (head : Head) (card out : List ℕ) (ok : Sound card head) (p : ℕ) (q : Power (head.k + 1) p) where
-  end : p ≡ 2 ^ suc head.k
-  end = q.is ∙ ap (λ (x : ℕ). 2 ^ x) (add-one head.k)
-
-  pub turned_spent : head.round.0 ≡ p → Turned head card out (NoRound Spent) card out
-  turned_spent t =
-      let j : ready out head ≡ Refused Spent = unfold ready in rw (← end, eq-eqb head.round.0 p t) refl in
-      record { says = rw j refl; leaves = rw j refl; writes = rw j refl }
-
-  module _ (f : head.round.0 ≡ p → ⊥) (w : ℕ) (wide : w ≡ width_of head) where
-    pub turned_short : length out < w → Turned head card out (NoRound WrongLength) card out
-    turned_short t =
-        let j : ready out head ≡ Refused WrongLength = unfold ready in rw (← end, ne_eqb head.round.0 p f, ← wide, lt-ltb (length out) w t) refl in
-        record { says = rw j refl; leaves = rw j refl; writes = rw j refl }
-
-    pub run_asks : w ≤ length out → Running head card out
-    run_asks t =
-        record {
-          sound = ok;
-          before = omega (arith, end, ok.upto, f);
-          wide = omega (arith, wide, t);
-        }
-
--- ---- round
-
-module _ (card out : List ℕ) (seen : Inspected) (e : seen ≡ inspect_of card) where
-  pub round_refused : (refusal : Refusal) → seen ≡ Refused refusal → Rounded card out (NoRound refusal) card out
-  unfolding round_must_say round_card round_out round_judged
-  round_refused refusal s = record { says = rw (← e, s) refl; leaves = rw (← e, s) refl; writes = rw (← e, s) refl }
-
-  pub round_turned : (head : Head) (answer : RoundAnswer) (card' out' : List ℕ) → seen ≡ Card head → Turned head card out answer card' out'
-      → Rounded card out answer card' out'
-  unfolding round_must_say round_card round_out round_judged
-  round_turned head answer card' out' s t =
-      record { says = rw (← e, s) t.says; leaves = rw (← e, s) t.leaves; writes = rw (← e, s) t.writes }

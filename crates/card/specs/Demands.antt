@@ -21,7 +21,7 @@ use Rattle.pebbling.specs.Demands.{preparing_rounds_are_quiet, paying_rounds_pay
 use Rattle.pebbling.specs.Recursion.{schedule, positions, put_out, work, tick, before, chain, slots}
 use Rattle.refusals.specs.declared.Refusal.TheVariants.{WrongLength, Spent, NoRoom}
 use Rattle.card.specs.declared.Head.{Head}
-use Rattle.card.specs.declared.Inspected.TheVariants.{Refused, Card}
+use Rattle.std.specs.Prelude.{Err, Ok}
 use Rattle.card.specs.Record.{head_at, width_of, held_count, card_bytes}
 use Rattle.card.specs.Refused.{anchor_judged, later, inspect_of, ready, round_judged}
 use Rattle.card.specs.Promises.{start_must_say, start_card, tick_or_quiet, judged_round_says, round_must_say, round_out, anchor_out}
@@ -45,7 +45,7 @@ module _ (function k s : ℕ) (seed lent : List ℕ) (given : Given function k s
     holds : (r : ℕ) → 0 < r → r ≤ 2 ^ suc k → after function k s seed lent outs (r - 1) ≡ record_at function k s seed lent r
     holds = after_holds function k s seed lent given outs wide
 
-    passes : (r : ℕ) → 0 < r → r < 2 ^ suc k → round_judged (record_at function k s seed lent r) (outs r) ≡ Card (head_at function k s r)
+    passes : (r : ℕ) → 0 < r → r < 2 ^ suc k → round_judged (record_at function k s seed lent r) (outs r) ≡ Ok (head_at function k s r)
     passes r from less = round_passes function k s seed lent given r (outs r) from less (wide r)
 
     puts_out_lem : (r : ℕ) → 0 < r → r < 2 ^ suc k
@@ -133,7 +133,7 @@ never_8 [] hashes e = let z : ◌≡◌ {A = ℕ} 0 8 = cc in omega arith
 never_8 (p ∷ ps) hashes e = let z : ◌≡◌ {A = ℕ} 0 8 = cc in omega arith
 
 -- it never comes from a record that passes inspection
-pub no_card_says_8 : (card out : List ℕ) (head : Head) → inspect_of card ≡ Card head → round_must_say card out ≡ 8 ∷ [] → ⊥
+pub no_card_says_8 : (card out : List ℕ) (head : Head) → inspect_of card ≡ Ok head → round_must_say card out ≡ 8 ∷ [] → ⊥
 unfolding round_must_say round_judged ready
 no_card_says_8 card out head e says =
     let ok : Sound card head = sound card head e in
@@ -145,7 +145,7 @@ no_card_says_8 card out head e says =
     less ok n = omega (arith, ok.upto)
 
     go : (spent short full : Bool) → (spent ≡ false → full ≡ false)
-        → judged_round_says (cond spent (Refused Spent) (cond short (Refused WrongLength) (cond full (Refused NoRoom) (Card head)))) ≡ 8 ∷ [] → ⊥
+        → judged_round_says (cond spent (Err Spent) (cond short (Err WrongLength) (cond full (Err NoRoom) (Ok head)))) ≡ 8 ∷ [] → ⊥
     go true short full f q = let z : ◌≡◌ {A = ℕ} 6 8 = cc in omega arith
     go false true full f q = let z : ◌≡◌ {A = ℕ} 4 8 = cc in omega arith
     go false false true f q = absurd (true≢false (f refl))

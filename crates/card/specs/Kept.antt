@@ -19,7 +19,7 @@ use Rattle.pebbling.specs.Demands.{never_more_than_slots}
 use Rattle.pebbling.specs.OnBytes.{held_size_lem, held_read}
 use Rattle.pebbling.specs.Recursion.{schedule, positions, chain}
 use Rattle.card.specs.declared.Head.{Head}
-use Rattle.card.specs.declared.Inspected.TheVariants.{Card}
+use Rattle.std.specs.Prelude.{Ok}
 use Rattle.card.specs.Record.{chain_of, width_of, held_count, held_size, slots_size, size, head_bytes, filled, card_bytes, head_of, held_values, free_slots, all_zero, laid_out}
 use Rattle.card.specs.Refused.{inspect_slots, inspect_of}
 use Rattle.card.specs.Sound.{Numbered, numbers_pass, in_range_lem}
@@ -112,7 +112,7 @@ module _ (head : Head) (vs : List (List ℕ)) (nr : Numbered head) (from : 0 < h
     headed_back = ap head_of apart ∙ head_back (filled head vs ++ drop (size head) old)
 
     -- it passes inspection
-    pub inspected : inspect_of (over (card_bytes head vs) old) ≡ Card head
+    pub inspected : inspect_of (over (card_bytes head vs) old) ≡ Ok head
     unfolding inspect_of inspect_slots
     inspected =
         let rest : List ℕ = filled head vs ++ drop (size head) old in

@@ -2,6 +2,7 @@ pub mod Record
 pub mod Refused
 pub mod Promises
 pub mod Sound
+pub mod Judged
 pub mod Steps
 pub mod Kept
 pub mod Run

@@ -16,7 +16,7 @@ use Rattle.pebbling.specs.Recursion.{schedule, positions, tick, before, chain}
 use Rattle.refusals.specs.Numbers.{said_of}
 use Rattle.refusals.specs.declared.Refusal.TheVariants.{WrongLength, Spent}
 use Rattle.card.specs.declared.Head.{Head}
-use Rattle.card.specs.declared.Inspected.TheVariants.{Card}
+use Rattle.std.specs.Prelude.{Ok}
 use Rattle.card.specs.Record.{head_at, slots_size, size, card_bytes, held_values}
 use Rattle.card.specs.Refused.{numbers, room_for, start_judged, inspect_of, ready, round_judged}
 use Rattle.card.specs.Promises.{start_card, elements_held, round_must_say, round_card, round_out}
@@ -68,7 +68,7 @@ module _ (function k s : ℕ) (seed lent : List ℕ) (given : Given function k s
   long r = given.long
 
   -- start refuses nothing
-  pub start_passes : start_judged (head_at function k s 1) seed lent ≡ Card (head_at function k s 1)
+  pub start_passes : start_judged (head_at function k s 1) seed lent ≡ Ok (head_at function k s 1)
   unfolding start_judged numbers room_for
   start_passes =
       rw (
@@ -80,7 +80,7 @@ module _ (function k s : ℕ) (seed lent : List ℕ) (given : Given function k s
       ) refl
 
   -- what a round reads from such a record: the head and the values
-  pub head_read : (r : ℕ) → 0 < r → r ≤ 2 ^ suc k → inspect_of (record_at function k s seed lent r) ≡ Card (head_at function k s r)
+  pub head_read : (r : ℕ) → 0 < r → r ≤ 2 ^ suc k → inspect_of (record_at function k s seed lent r) ≡ Ok (head_at function k s r)
   head_read r from upto = inspected (head r) (vs r) (numbered r) from upto (holding r) lent (long r)
 
   pub values_read : (r : ℕ) → 0 < r → r ≤ 2 ^ suc k
@@ -104,7 +104,7 @@ module _ (function k s : ℕ) (seed lent : List ℕ) (given : Given function k s
 
   -- and otherwise nothing
   pub round_passes : (r : ℕ) (out : List ℕ) → 0 < r → r < 2 ^ suc k → width c ≤ length out
-      → round_judged (record_at function k s seed lent r) out ≡ Card (head_at function k s r)
+      → round_judged (record_at function k s seed lent r) out ≡ Ok (head_at function k s r)
   unfolding round_judged
   round_passes r out from less w = rw (head_read r from (omega arith)) (ready_passes (head r) out (numbered r) less w)
 

@@ -120,17 +120,16 @@ module _ (function k s : ℕ) (seed : List ℕ) where
       called_on : {b : List ℕ} → round_card (record_at function k s seed lent r) out ≡ b → round_card card out ≡ b
       called_on e = ap (λ (b : List ℕ). round_card b out) now.holds ∙ e
 
+      stays : round_card (record_at function k s seed lent r) out ≡ record_at function k s seed lent r → Standing (round_card card out) lent r
+      stays e = record { from = now.from; upto = now.upto; given = now.given; holds = called_on e }
+
       go : (r ≡ 2 ^ suc k) ⊎ (r < 2 ^ suc k) → (length out < width (chain_of function)) ⊎ (width (chain_of function) ≤ length out)
           → (next : ℕ) × Standing (round_card card out) lent next
           × ((n : ℕ) → min (next + n) (2 ^ suc k) ≡ min (r + (counted function out + n)) (2 ^ suc k))
-      go (inl spent) room = (
-        r,
-        record { from = now.from; upto = now.upto; given = now.given; holds = called_on (spent_leaves function k s seed lent now.given out r spent) },
-        λ n. omega arith,
-      )
+      go (inl spent) room = (r, stays (spent_leaves function k s seed lent now.given out r spent), λ n. omega arith)
       go (inr less) (inl short) = (
         r,
-        record { from = now.from; upto = now.upto; given = now.given; holds = called_on (short_leaves function k s seed lent now.given out r now.from less short) },
+        stays (short_leaves function k s seed lent now.given out r now.from less short),
         λ n. rw (lt-leb (width (chain_of function)) (length out) short) (omega arith),
       )
       go (inr less) (inr wide) = (
@@ -194,22 +193,23 @@ module _ (function k s : ℕ) (seed lent : List ℕ) (given : Given function k s
 
   -- ---- what a further call says and writes
 
+  -- a refusal that is said of round r's record is said here, and changes nothing
+  refused_here : (refusal : Refusal) (out : List ℕ) → round_must_say (record_at function k s seed last r) out ≡ said_of refusal
+      → (round_must_say card out ≡ said_of refusal) × (round_card card out ≡ card) × (round_out card out ≡ out)
+  refused_here refusal out says =
+      let here : round_must_say card out ≡ said_of refusal = ap (λ (b : List ℕ). round_must_say b out) standing.holds ∙ says in
+      let same = round_says_refused_changes_nothing refusal card out here in
+      (here, same.0, same.1)
+
   -- when all rounds are run it is refused with 6
   pub then_spent_says_6 : (out : List ℕ) → r ≡ 2 ^ suc k → (round_must_say card out ≡ 6 ∷ []) × (round_card card out ≡ card) × (round_out card out ≡ out)
-  then_spent_says_6 out spent =
-      let says : round_must_say card out ≡ said_of Spent =
-      ap (λ (b : List ℕ). round_must_say b out) standing.holds ∙ spent_says function k s seed last standing.given r out spent in
-      let same = round_says_refused_changes_nothing Spent card out says in
-      (says, same.0, same.1)
+  then_spent_says_6 out spent = refused_here Spent out (spent_says function k s seed last standing.given r out spent)
 
   -- otherwise with 4 where the out buffer is too short for a value
   pub then_short_says_4 : (out : List ℕ) → r < 2 ^ suc k → length out < width (chain_of function)
       → (round_must_say card out ≡ 4 ∷ []) × (round_card card out ≡ card) × (round_out card out ≡ out)
   then_short_says_4 out less short =
-      let says : round_must_say card out ≡ said_of WrongLength =
-      ap (λ (b : List ℕ). round_must_say b out) standing.holds ∙ short_says function k s seed last standing.given r out standing.from less short in
-      let same = round_says_refused_changes_nothing WrongLength card out says in
-      (says, same.0, same.1)
+      refused_here WrongLength out (short_says function k s seed last standing.given r out standing.from less short)
 
   -- and otherwise round r is run
   module _ (out : List ℕ) (wide : width (chain_of function) ≤ length out) where

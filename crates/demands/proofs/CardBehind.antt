@@ -1,6 +1,6 @@
 -- Bytes behind a card's record are neither read nor written: by a round or by many rounds, by a start, a rebuild or a start of n ticks. The
 -- record that a round is lent may be damaged: all that is asked is that its own bytes are as many as its own head says (`Whole`). Assumes nothing.
-use Rattle.std.specs.Prelude.{◌≡◌, Bool, ◌⊎◌, eqb, ltb, drop, get_or}
+use Rattle.std.specs.Prelude.{◌≡◌, Bool, ◌⊎◌, Result, Ok, Err, eqb, ltb, drop, get_or}
 use Rattle.std.proofs.Math.Path.{refl, ap}
 use Rattle.std.proofs.Common.{sym, ◌∙◌, inl, inr, eq-zero-or-pos, length-append}
 use Rattle.std.proofs.Math.Bool.{true, false, cond}
@@ -28,14 +28,14 @@ use Rattle.pebbling.specs.Slots.{slots_some}
 use Rattle.refusals.specs.declared.Refusal.{Refusal}
 use Rattle.refusals.specs.declared.Refusal.TheVariants.{UnknownFunction, UnknownSchedule, BadRecord, BadTicks}
 use Rattle.card.specs.declared.Head.{Head}
-use Rattle.card.specs.declared.Inspected.{Inspected}
-use Rattle.card.specs.declared.Inspected.TheVariants.{Refused, Card}
 use Rattle.card.specs.Record.{head_at, chain_of, width_of, held_count, held_size, slots_size, size, head_bytes, filled, card_bytes, head_of, held_values, free_slots, all_zero, laid_out}
-use Rattle.card.specs.Refused.{later, passing, numbers, room_for, start_judged, in_range, rebuild_judged, start_ticks_judged, inspect_slots, inspect_of, ready, round_judged}
+use Rattle.refusals.specs.Passing.{passing}
+use Rattle.card.specs.Refused.{later, numbers, room_for, start_judged, in_range, rebuild_judged, start_ticks_judged, inspect_slots, inspect_of, ready, round_judged}
 use Rattle.card.specs.Promises.{judged_says, judged_card, start_must_say, start_card, elements_held, rebuild_must_say, rebuild_card, start_ticks_must_say, start_ticks_card, judged_round_says, judged_round_card, judged_round_out, round_must_say, round_card, round_out}
 use Rattle.card.specs.Sound.{Numbered, numbers_same, numbers_known, numbers_pass, roomy, rebuild_judged_lem, Sound, runs}
 use Rattle.card.specs.Kept.{Holding, chain_holding, card_length, headed_back}
-use Rattle.demands.specs.Front.{longer, part_front, over-front}
+use Rattle.demands.specs.Front.{part_front, short_same, over-front}
+use Rattle.demands.proofs.Passed.{passing_same}
 use Rattle.demands.specs.CardBehind.{Whole, rounds}
 
 -- ---- a round on a sound record: what it reads and what it leaves
@@ -102,6 +102,15 @@ module _ (own : List ℕ) (head : Head) (sound : Sound own head) (less : head.ro
         ap (values (width_of head) (held_count head)) (drop-append-le 16 own rest (omega (arith, sound.long)))
         ∙ values_front (width_of head) (held_count head) (drop 16 own) rest held_within
 
+-- what holds of a refusal, and of the head of a sound record with rounds left, holds of what a round judges
+judged_cases : (own out : List ℕ) (Holds : Result Head Refusal → Type 0) → ((refusal : Refusal) → Holds (Err refusal))
+    → ((head : Head) → Sound own head → head.round.0 < 2 ^ suc head.k → Holds (Ok head)) → Holds (round_judged own out)
+judged_cases own out Holds refused passed = go (round_judged own out) refl
+  where
+    go : (seen : Result Head Refusal) → round_judged own out ≡ seen → Holds seen
+    go (Err x) q = refused x
+    go (Ok head) q = let ok = runs own out head q in passed head ok.0 ok.1
+
 -- ---- any record that is as long as its own head says
 
 -- where it has as many bytes as its head says, whatever that says, it is whole
@@ -138,17 +147,15 @@ module _ (own rest : List ℕ) (whole : Whole own) where
   unfolding inspect_slots in_range
   slots_same n =
       let long : size (head_of own) ≤ length own = omega (arith, whole.slotted n) in
-      rw (
-        le-ltb (length (own ++ rest)) (size (head_of own)) (longer own rest (size (head_of own)) long),
-        le-ltb (length own) (size (head_of own)) long,
-      ) (go (eqb (head_of own).round.0 0) (ltb (2 ^ suc (head_of own).k) (head_of own).round.0) (free_same long))
+      rw (short_same own rest (size (head_of own)) long, le-ltb (length own) (size (head_of own)) long)
+      (go (eqb (head_of own).round.0 0) (ltb (2 ^ suc (head_of own).k) (head_of own).round.0) (free_same long))
     where
-      judge : List ℕ → Head → Inspected
-      judge card h = cond (all_zero (free_slots h card)) (Card h) (Refused BadRecord)
+      judge : List ℕ → Head → Result Head Refusal
+      judge card h = cond (all_zero (free_slots h card)) (Ok h) (Err BadRecord)
 
       go : (none over : Bool) → free_slots (head_of own) (own ++ rest) ≡ free_slots (head_of own) own
-          → passing (cond none (Refused BadRecord) (cond over (Refused BadRecord) (Card (head_of own)))) (judge (own ++ rest))
-          ≡ passing (cond none (Refused BadRecord) (cond over (Refused BadRecord) (Card (head_of own)))) (judge own)
+          → passing (cond none (Err BadRecord) (cond over (Err BadRecord) (Ok (head_of own)))) (judge (own ++ rest))
+          ≡ passing (cond none (Err BadRecord) (cond over (Err BadRecord) (Ok (head_of own)))) (judge own)
       go true over e = refl
       go false true e = refl
       go false false e = rw e refl
@@ -157,23 +164,21 @@ module _ (own rest : List ℕ) (whole : Whole own) where
   unfolding inspect_of
   inspected_same =
       rw (
-        le-ltb (length (own ++ rest)) 16 (longer own rest 16 whole.headed),
-        le-ltb (length own) 16 whole.headed,
+        short_same own rest 16 whole.headed,
         laid_same,
         head_same,
-        go (numbers (head_of own)) refl,
+        passing_same (numbers (head_of own)) (inspect_slots (own ++ rest)) (inspect_slots own) on_slots,
       ) refl
     where
-      go : (seen : Inspected) → numbers (head_of own) ≡ seen → passing seen (inspect_slots (own ++ rest)) ≡ passing seen (inspect_slots own)
-      go (Refused x) q = refl
-      go (Card g) q =
+      on_slots : (g : Head) → numbers (head_of own) ≡ Ok g → inspect_slots (own ++ rest) g ≡ inspect_slots own g
+      on_slots g q =
           let same : head_of own ≡ g = numbers_same (head_of own) g q in
           rw (← same) (slots_same (rw same (numbers_known (head_of own) g q)))
 
   module _ (out : List ℕ) where
     judged_same : round_judged (own ++ rest) out ≡ round_judged own out
     unfolding round_judged
-    judged_same = ap (λ (seen : Inspected). passing seen (ready out)) inspected_same
+    judged_same = ap (λ (seen : Result Head Refusal). passing seen (ready out)) inspected_same
 
     -- the round says the same
     pub round_says_the_same : round_must_say (own ++ rest) out ≡ round_must_say own out
@@ -183,31 +188,27 @@ module _ (own rest : List ℕ) (whole : Whole own) where
     -- it leaves the record the same, and the bytes behind it as they are
     pub round_leaves_the_same : round_card (own ++ rest) out ≡ round_card own out ++ rest
     unfolding round_card
-    round_leaves_the_same = rw judged_same (go (round_judged own out) refl)
-      where
-        go : (seen : Inspected) → round_judged own out ≡ seen → judged_round_card (own ++ rest) seen ≡ judged_round_card own seen ++ rest
-        go (Refused x) q = refl
-        go (Card head) q =
-            let ok = runs own out head q in
-            rw (values_same own head ok.0 ok.1 rest) (over-front own rest (card_bytes (later head) (left own head ok.0 ok.1)) (left_within own head ok.0 ok.1))
+    round_leaves_the_same =
+        rw judged_same
+        (judged_cases own out (λ seen. judged_round_card (own ++ rest) seen ≡ judged_round_card own seen ++ rest)
+        (λ x. refl)
+        (λ head sound less.
+        rw (values_same own head sound less rest)
+        (over-front own rest (card_bytes (later head) (left own head sound less)) (left_within own head sound less))))
 
     -- and it writes the same to the out buffer
     pub round_writes_the_same : round_out (own ++ rest) out ≡ round_out own out
     unfolding round_out
-    round_writes_the_same = rw judged_same (go (round_judged own out) refl)
-      where
-        go : (seen : Inspected) → round_judged own out ≡ seen → judged_round_out (own ++ rest) out seen ≡ judged_round_out own out seen
-        go (Refused x) q = refl
-        go (Card head) q = let ok = runs own out head q in rw (values_same own head ok.0 ok.1 rest) refl
+    round_writes_the_same =
+        rw judged_same
+        (judged_cases own out (λ seen. judged_round_out (own ++ rest) out seen ≡ judged_round_out own out seen)
+        (λ x. refl)
+        (λ head sound less. rw (values_same own head sound less rest) refl))
 
 -- a round leaves a whole record whole
 pub round_leaves_it_whole : (own out : List ℕ) → Whole own → Whole (round_card own out)
 unfolding round_card
-round_leaves_it_whole own out whole = go (round_judged own out) refl
-  where
-    go : (seen : Inspected) → round_judged own out ≡ seen → Whole (judged_round_card own seen)
-    go (Refused x) q = whole
-    go (Card head) q = let ok = runs own out head q in left_whole own head ok.0 ok.1
+round_leaves_it_whole own out whole = judged_cases own out (λ seen. Whole (judged_round_card own seen)) (λ x. whole) (left_whole own)
 
 -- so any number of rounds leaves the bytes behind it as they are, and the record as if they were not there
 pub rounds_leave_the_same : (own rest : List ℕ) (outs : List (List ℕ)) → Whole own → rounds (own ++ rest) outs ≡ rounds own outs ++ rest
@@ -229,16 +230,16 @@ same_record_same_answer own rest₁ rest₂ out whole = (
 
 -- what the tests of such a call come to, whatever record it is lent: a refusal, or the last test, which is whether there is room for the
 -- record of its head; the values that the call lays then have slots
-data Tested (head : Head) (seed : List ℕ) (laid : Head → List (List ℕ)) (judged : List ℕ → Inspected) : Type 0 where
-  refused : (refusal : Refusal) → ((card : List ℕ) → judged card ≡ Refused refusal) → Tested head seed laid judged
+data Tested (head : Head) (seed : List ℕ) (laid : Head → List (List ℕ)) (judged : List ℕ → Result Head Refusal) : Type 0 where
+  refused : (refusal : Refusal) → ((card : List ℕ) → judged card ≡ Err refusal) → Tested head seed laid judged
   room_asked : (length seed ≡ width_of head → length (card_bytes head (laid head)) ≤ size head)
       → ((card : List ℕ) → judged card ≡ room_for seed card head) → Tested head seed laid judged
 
-module _ (head : Head) (seed : List ℕ) (laid : Head → List (List ℕ)) (judged : List ℕ → Inspected) (tested : Tested head seed laid judged)
+module _ (head : Head) (seed : List ℕ) (laid : Head → List (List ℕ)) (judged : List ℕ → Result Head Refusal) (tested : Tested head seed laid judged)
     (own rest : List ℕ) (long : size head ≤ length own) where
   room_same : room_for seed (own ++ rest) head ≡ room_for seed own head
   unfolding room_for
-  room_same = rw (le-ltb (length (own ++ rest)) (size head) (longer own rest (size head) long), le-ltb (length own) (size head) long) refl
+  room_same = rw (short_same own rest (size head) long) refl
 
   tests_same : judged (own ++ rest) ≡ judged own
   tests_same = go tested
@@ -250,10 +251,10 @@ module _ (head : Head) (seed : List ℕ) (laid : Head → List (List ℕ)) (judg
   laid_the_same : judged_card laid (own ++ rest) (judged (own ++ rest)) ≡ judged_card laid own (judged own) ++ rest
   laid_the_same = rw tests_same (go tested)
     where
-      by : (length seed ≡ width_of head → length (card_bytes head (laid head)) ≤ size head) → (seen : Inspected) → room_for seed own head ≡ seen
+      by : (length seed ≡ width_of head → length (card_bytes head (laid head)) ≤ size head) → (seen : Result Head Refusal) → room_for seed own head ≡ seen
           → judged_card laid (own ++ rest) seen ≡ judged_card laid own seen ++ rest
-      by fits (Refused x) q = refl
-      by fits (Card g) q =
+      by fits (Err x) q = refl
+      by fits (Ok g) q =
           let ok = roomy head seed own g q in
           rw (← ok.0) (over-front own rest (card_bytes head (laid head)) (omega (arith, fits ok.1.seeded, long)))
 
@@ -276,9 +277,9 @@ module _ (function k s : ℕ) (seed : List ℕ) where
           unfold card_bytes head_bytes filled joined size slots_size in
           simp (length-append, length-replicate) (omega (arith, some, e))
 
-      go : (seen : Inspected) → numbers started_head ≡ seen → Tested started_head seed (λ h. seed ∷ []) (start_judged started_head seed)
-      go (Refused x) q = refused x (λ card. rw q refl)
-      go (Card g) q = room_asked fits (λ card. rw (q, ← numbers_same started_head g q) refl)
+      go : (seen : Result Head Refusal) → numbers started_head ≡ seen → Tested started_head seed (λ h. seed ∷ []) (start_judged started_head seed)
+      go (Err x) q = refused x (λ card. rw q refl)
+      go (Ok g) q = room_asked fits (λ card. rw (q, ← numbers_same started_head g q) refl)
 
   module _ (own rest : List ℕ) (long : size (head_at function k s 1) ≤ length own) where
     pub start_says_the_same : start_must_say function k s seed (own ++ rest) ≡ start_must_say function k s seed own
@@ -310,9 +311,9 @@ module _ (function k s r : ℕ) (seed : List ℕ) where
           refused BadRecord (λ card. rw (numbers_pass rebuilt_head n, ne_eqb r 0 (λ e. omega arith), lt-ltb (2 ^ suc k) r beyond) refl)
       by n (inr from) (inr upto) = room_asked (held_fit rebuilt_head seed n from upto) (λ card. rebuild_judged_lem rebuilt_head seed card n from upto)
 
-      go : (seen : Inspected) → numbers rebuilt_head ≡ seen → Tested rebuilt_head seed (elements_held seed) (rebuild_judged rebuilt_head seed)
-      go (Refused x) q = refused x (λ card. rw q refl)
-      go (Card g) q = by (rw (numbers_same rebuilt_head g q) (numbers_known rebuilt_head g q)) (eq-zero-or-pos r) (lt_or_le (2 ^ suc k) r)
+      go : (seen : Result Head Refusal) → numbers rebuilt_head ≡ seen → Tested rebuilt_head seed (elements_held seed) (rebuild_judged rebuilt_head seed)
+      go (Err x) q = refused x (λ card. rw q refl)
+      go (Ok g) q = by (rw (numbers_same rebuilt_head g q) (numbers_known rebuilt_head g q)) (eq-zero-or-pos r) (lt_or_le (2 ^ suc k) r)
 
   module _ (own rest : List ℕ) (long : size (head_at function k s 1) ≤ length own) where
     pub rebuild_says_the_same : rebuild_must_say function k s r seed (own ++ rest) ≡ rebuild_must_say function k s r seed own

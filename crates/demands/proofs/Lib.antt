@@ -1,4 +1,5 @@
 pub mod Unchanged
+pub mod Passed
 pub mod CardBehind
 pub mod PostRead
 pub mod PostBehind

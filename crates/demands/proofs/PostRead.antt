@@ -1,5 +1,5 @@
 -- What is read of a post's record, damaged or not, does not depend on the bytes behind it. Assumes nothing.
-use Rattle.std.specs.Prelude.{◌≡◌, ℕ, ◌+◌, ◌≤◌, ◌<◌, get_or}
+use Rattle.std.specs.Prelude.{◌≡◌, Result, ℕ, ◌+◌, ◌≤◌, ◌<◌, get_or}
 use Rattle.std.proofs.Math.Path.{refl, ap}
 use Rattle.std.proofs.Common.{arith, length-take}
 use mathlib.Core.List.{List, ◌++◌}
@@ -7,12 +7,12 @@ use Rattle.std.proofs.Math.ListN.{length, get_or-append, length-append}
 use Rattle.oneway.specs.Laws.{width_small}
 use Rattle.post.specs.declared.Head.{Head}
 use Rattle.post.specs.Record.{size, chain_of, width_of, marked, head_of, anchor_of, held_value, head_bytes, post_bytes}
-use Rattle.demands.specs.Front.{part_front, longer}
-use borrow.Author.Tests.{le-ltb}
+use Rattle.demands.specs.Front.{part_front, short_same}
+use Rattle.demands.proofs.Passed.{passing_same}
 use Rattle.oneway.specs.Step.{step}
-use Rattle.post.specs.declared.Inspected.{Inspected}
-use Rattle.post.specs.declared.Inspected.TheVariants.{Refused, Post}
-use Rattle.post.specs.Refused.{passing, numbers, inspect_paid, inspect_of, ready, offer_judged}
+use Rattle.refusals.specs.declared.Refusal.{Refusal}
+use Rattle.refusals.specs.Passing.{passing}
+use Rattle.post.specs.Refused.{numbers, inspect_paid, inspect_of, ready, offer_judged}
 use Rattle.post.specs.Promises.{limit_of, search_finds, credited}
 use Rattle.post.specs.Search.{fewest}
 
@@ -44,23 +44,18 @@ module _ (own rest : List ℕ) (whole : size ≤ length own) where
   unfolding inspect_of
   inspected_same =
       rw (
-        le-ltb (length (own ++ rest)) size (longer own rest size whole),
-        le-ltb (length own) size whole,
+        short_same own rest size whole,
         marked_same,
         head_same,
-        go (numbers (head_of own)),
+        passing_same (numbers (head_of own)) (inspect_paid (own ++ rest)) (inspect_paid own) (λ head passed. paid_same head),
       ) refl
-    where
-      go : (seen : Inspected) → passing seen (inspect_paid (own ++ rest)) ≡ passing seen (inspect_paid own)
-      go (Refused x) = refl
-      go (Post head) = paid_same head
 
   -- ---- what an offer reads
 
   module _ (value : List ℕ) (gap : ℕ) where
     pub judged_same : offer_judged (own ++ rest) value gap ≡ offer_judged own value gap
     unfolding offer_judged
-    judged_same = ap (λ (seen : Inspected). passing seen (ready value gap)) inspected_same
+    judged_same = ap (λ (seen : Result Head Refusal). passing seen (ready value gap)) inspected_same
 
     pub found_same : (head : Head) → search_finds (own ++ rest) value gap head ≡ search_finds own value gap head
     unfolding search_finds

@@ -15,10 +15,7 @@ const MOST: u32 = 1_048_576;
 pub fn allowed(ticks: u32) -> bool
     ensures { result ≡ is_allowed ticks }
 {
-    if ticks == 0 {
-        return false;
-    }
-    ticks <= MOST
+    (1..=MOST).contains(&ticks)
 }
 
 // The least k with 2^k at least the ticks: so many binary digits has the number before them.

@@ -1,95 +1,62 @@
 -- A round's line by its answer: a quiet round's ends in "-", and a tick's in its position. Assumes nothing.
-use mathlib.Core.Path.{◌≡◌, refl, ◌∙◌}
+use mathlib.Core.Path.{◌≡◌, refl}
 use mathlib.Core.List.{List, [], ◌∷◌, ◌++◌}
 use Prim.Native.Nat.{ℕ, ◌+◌, ◌≤◌}
 use native.Mathlib.Omega.{arith}
 use lib.ListN.{length}
 use Rattle.card.specs.Promises.{round_answer_says, tick_or_quiet}
-use Rattle.card.specs.declared.RoundAnswer.{RoundAnswer}
-use Rattle.card.specs.declared.RoundAnswer.TheVariants.{Quiet, Tick, Refused}
-use Rattle.lists.specs.Written.{Written, written_none, first_fits, next_fits, written_both}
-use Rattle.listing.specs.declared.rounds.Line.{Line}
-use Rattle.listing.specs.Text.{bytes}
+use Rattle.std.specs.Prelude.{Err, Ok, Result}
+use Rattle.refusals.specs.declared.Refusal.{Refusal}
+use Rattle.card.specs.declared.Outcome.{Outcome}
+use Rattle.card.specs.declared.Outcome.TheVariants.{Quiet, Tick}
+use Rattle.printing.specs.Names.{bytes}
 use Rattle.listing.specs.Listing.{line_feed, field, put_out_field, held_fields, line_of}
-use Rattle.listing.specs.Steps.{Lined, quiet_line, quiet_hashes, answer_line, answer_hashes}
+use Rattle.listing.specs.declared.text.Page.{Page}
+use Rattle.listing.specs.Steps.{Put, answer_line, answer_hashes}
+use Rattle.listing.proofs.PageLaws.{first_room, next_room, put_both}
 
-module _ (r : ℕ) (held : List ℕ) (at : ℕ) (text : List ℕ) where
-  -- ---- a quiet round
+module _ (r : ℕ) (held : List ℕ) (a : Result Outcome Refusal) where
+  -- ---- how the line ends
 
-  -- of another answer nothing is written there
-  pub quiet_none : (a : RoundAnswer) → ((h : ℕ) → a ≡ Quiet h → ⊥)
-      → Lined (quiet_line r held a) (quiet_hashes a) at text (record { end = at; hashes = 0 }) text
-  unfolding quiet_line quiet_hashes
-  quiet_none (Quiet hashes) o = absurd (o hashes refl)
-  quiet_none (Tick position hashes) o = record { wrote = written_none text at; counts = refl }
-  quiet_none (Refused why) o = record { wrote = written_none text at; counts = refl }
+  -- after the fields that every line has
+  pub record Ends (hashes : ℕ) (last : List ℕ) : Type 0 where
+    pub line : answer_line r held a ≡ held_fields r hashes held ++ last
+    pub counts : answer_hashes a ≡ hashes
 
-  module _ (a : RoundAnswer) (hashes : ℕ) (e : a ≡ Quiet hashes) where
-    quiet_line_lem : quiet_line r held a ≡ held_fields r hashes held ++ bytes "-\n"
-    unfolding quiet_line line_of put_out_field
-    quiet_line_lem = rw e refl
+  pub quiet_ends : (o : Outcome) (hashes : ℕ) → a ≡ Ok o → o ≡ Quiet hashes → Ends hashes (bytes "-\n")
+  unfolding answer_line answer_hashes line_of put_out_field
+  quiet_ends o hashes e q = record { line = rw (e, q) refl; counts = rw (e, q) refl }
 
-    module _ (room : at + length (quiet_line r held a) ≤ length text) where
-      pub quiet_fits : at + length (held_fields r hashes held) ≤ length text
-      quiet_fits = first_fits (held_fields r hashes held) (bytes "-\n") text at (rw quiet_line_lem at room)
+  pub tick_ends : (o : Outcome) (position hashes : ℕ) → a ≡ Ok o → o ≡ Tick position hashes → Ends hashes (field position line_feed)
+  unfolding answer_line answer_hashes line_of put_out_field
+  tick_ends o position hashes e q = record { line = rw (e, q) refl; counts = rw (e, q) refl }
 
-      pub quiet_end_fits : (text₁ : List ℕ) (mid : ℕ) → Written (held_fields r hashes held) at text mid text₁ → mid + length (bytes "-\n") ≤ length text₁
-      quiet_end_fits text₁ mid w = next_fits (held_fields r hashes held) (bytes "-\n") text at text₁ mid w (rw quiet_line_lem at room)
+  -- a refused round has no line
+  pub refused_says : (why : Refusal) → a ≡ Err why → (answer_line r held a ≡ []) × (answer_hashes a ≡ 0)
+  unfolding answer_line answer_hashes
+  refused_says why e = (rw e refl, rw e refl)
 
-    pub quiet_says : (text₁ : List ℕ) (mid : ℕ) → Written (held_fields r hashes held) at text mid text₁ → (text₂ : List ℕ) (end : ℕ) → Written (bytes "-\n") mid text₁ end text₂
-        → Lined (quiet_line r held a) (quiet_hashes a) at text (record { end = end; hashes = hashes }) text₂
-    unfolding quiet_hashes
-    quiet_says text₁ mid w text₂ end v =
-        record {
-          wrote = rw quiet_line_lem (written_both (held_fields r hashes held) (bytes "-\n") text at text₁ mid w text₂ end v);
-          counts = rw e refl;
-        }
+  -- ---- the line in its two parts
 
-  -- ---- a tick
+  module _ (hashes : ℕ) (last : List ℕ) (e : Ends hashes last) (p : Page) where
+    module _ (room : p.at + length (answer_line r held a) ≤ length p.text.now) where
+      pub held_fits : p.at + length (held_fields r hashes held) ≤ length p.text.now
+      held_fits = first_room (held_fields r hashes held) last p (rw e.line at room)
 
-  -- any other answer is left to the quiet line
-  same_line : (a : RoundAnswer) → ((p h : ℕ) → a ≡ Tick p h → ⊥) → (quiet_line r held a ≡ answer_line r held a) × (quiet_hashes a ≡ answer_hashes a)
-  unfolding quiet_line answer_line quiet_hashes answer_hashes
-  same_line (Quiet hashes) o = (refl, refl)
-  same_line (Tick position hashes) o = absurd (o position hashes refl)
-  same_line (Refused why) o = (refl, refl)
+      pub last_fits : (q : Page) → Put (held_fields r hashes held) p q → q.at + length last ≤ length q.text.now
+      last_fits q w = next_room (held_fields r hashes held) last p q w (rw e.line at room)
 
-  module _ (a : RoundAnswer) (o : (p h : ℕ) → a ≡ Tick p h → ⊥) where
-    pub other_fits : at + length (answer_line r held a) ≤ length text → at + length (quiet_line r held a) ≤ length text
-    other_fits room = rw (same_line a o).0 room
-
-    pub other_says : (text' : List ℕ) (line : Line) → Lined (quiet_line r held a) (quiet_hashes a) at text line text' → Lined (answer_line r held a) (answer_hashes a) at text line text'
-    other_says text' line w = record { wrote = rw (← (same_line a o).0) w.wrote; counts = w.counts ∙ (same_line a o).1 }
-
-  module _ (a : RoundAnswer) (position hashes : ℕ) (e : a ≡ Tick position hashes) where
-    tick_line : answer_line r held a ≡ held_fields r hashes held ++ field position line_feed
-    unfolding answer_line line_of put_out_field
-    tick_line = rw e refl
-
-    module _ (room : at + length (answer_line r held a) ≤ length text) where
-      pub tick_fits : at + length (held_fields r hashes held) ≤ length text
-      tick_fits = first_fits (held_fields r hashes held) (field position line_feed) text at (rw tick_line at room)
-
-      pub tick_end_fits : (text₁ : List ℕ) (mid : ℕ) → Written (held_fields r hashes held) at text mid text₁ → mid + length (field position line_feed) ≤ length text₁
-      tick_end_fits text₁ mid w = next_fits (held_fields r hashes held) (field position line_feed) text at text₁ mid w (rw tick_line at room)
-
-    pub tick_says : (text₁ : List ℕ) (mid : ℕ) → Written (held_fields r hashes held) at text mid text₁ → (text₂ : List ℕ) (end : ℕ) → Written (field position line_feed) mid text₁ end text₂
-        → Lined (answer_line r held a) (answer_hashes a) at text (record { end = end; hashes = hashes }) text₂
-    unfolding answer_hashes
-    tick_says text₁ mid w text₂ end v =
-        record {
-          wrote = rw tick_line (written_both (held_fields r hashes held) (field position line_feed) text at text₁ mid w text₂ end v);
-          counts = rw e refl;
-        }
+    pub answer_says : (q r' : Page) → Put (held_fields r hashes held) p q → Put last q r' → Put (answer_line r held a) p r'
+    answer_says q r' w v = rw e.line (put_both (held_fields r hashes held) last p q w r' v)
 
 -- ---- what a round says tells its line
 
-pub line_told : (r : ℕ) (held : List ℕ) (a : RoundAnswer) (out : List ℕ) (hashes : ℕ) → round_answer_says a ≡ tick_or_quiet out hashes
+pub line_told : (r : ℕ) (held : List ℕ) (a : Result Outcome Refusal) (out : List ℕ) (hashes : ℕ) → round_answer_says a ≡ tick_or_quiet out hashes
     → (answer_line r held a ≡ line_of r hashes held out) × (answer_hashes a ≡ hashes)
 unfolding answer_line answer_hashes line_of put_out_field
-line_told r held (Quiet h) [] hashes e = let q : h ≡ hashes = cc in (rw q refl, q)
-line_told r held (Quiet h) (p ∷ ps) hashes e = let z : ◌≡◌ {A = ℕ} 0 1 = cc in absurd (omega arith)
-line_told r held (Tick p h) [] hashes e = let z : ◌≡◌ {A = ℕ} 0 1 = cc in absurd (omega arith)
-line_told r held (Tick p h) (q ∷ qs) hashes e = let i : h ≡ hashes = cc in let j : p ≡ q = cc in (rw (i, j) refl, i)
-line_told r held (Refused why) [] hashes e = let z : ◌≡◌ {A = ℕ} 0 1 = cc in absurd (omega arith)
-line_told r held (Refused why) (p ∷ ps) hashes e = let z : ◌≡◌ {A = ℕ} 0 1 = cc in absurd (omega arith)
+line_told r held (Ok (Quiet h)) [] hashes e = let q : h ≡ hashes = cc in (rw q refl, q)
+line_told r held (Ok (Quiet h)) (p ∷ ps) hashes e = let z : ◌≡◌ {A = ℕ} 0 1 = cc in absurd (omega arith)
+line_told r held (Ok (Tick p h)) [] hashes e = let z : ◌≡◌ {A = ℕ} 0 1 = cc in absurd (omega arith)
+line_told r held (Ok (Tick p h)) (q ∷ qs) hashes e = let i : h ≡ hashes = cc in let j : p ≡ q = cc in (rw (i, j) refl, i)
+line_told r held (Err why) [] hashes e = let z : ◌≡◌ {A = ℕ} 0 1 = cc in absurd (omega arith)
+line_told r held (Err why) (p ∷ ps) hashes e = let z : ◌≡◌ {A = ℕ} 0 1 = cc in absurd (omega arith)

@@ -1,3 +1,4 @@
+pub mod PageLaws
 pub mod TextLaws
 pub mod ReadLaws
 pub mod LineLaws

@@ -16,7 +16,8 @@ use Rattle.pebbling.specs.HashesDone.{fair}
 use Rattle.pebbling.specs.Len.{lt_or_le}
 use Rattle.pebbling.specs.Recursion.{total, schedule, positions, work, put_out, slots}
 use Rattle.pebbling.specs.Totals.{run_total, work_lt}
-use Rattle.listing.specs.Text.{bytes, decimal}
+use Rattle.printing.specs.Names.{bytes}
+use Rattle.listing.specs.Text.{decimal}
 use Rattle.listing.specs.Listing.{space, line_feed, field, mark_before, position_list, put_out_field, held_fields, line_of, round_line, round_lines, line_for, head_line, total_line}
 use Rattle.listing.specs.Steps.{Round}
 use Rattle.listing.specs.Lines.{decimal_short, asked_short}

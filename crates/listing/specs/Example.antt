@@ -22,10 +22,10 @@ use Rattle.pebbling.specs.Recursion.{
   positions,
   work,
 }
-use Rattle.listing.specs.Text.{bytes, decimal, decimal_in}
+use Rattle.printing.specs.Names.{bytes, name_of}
+use Rattle.listing.specs.Text.{decimal, decimal_in}
 use Rattle.listing.specs.Listing.{
   line_feed,
-  name_of,
   line_for,
   reads,
   ended,

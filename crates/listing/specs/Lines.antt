@@ -5,8 +5,9 @@ use Rattle.std.proofs.Math.Bool.{or-true}
 use Rattle.std.proofs.lemmas.Bool.{lt-leb}
 use Rattle.std.proofs.lemmas.List.{take-append-le}
 use Rattle.pebbling.specs.Len.{lt_or_le}
-use Rattle.listing.specs.Text.{bytes, digit, decimal_in, decimal}
-use Rattle.listing.specs.Listing.{line_feed, space, name_of, line_for, reads, ended, decides, listed_by, listed}
+use Rattle.printing.specs.Names.{bytes, name_of}
+use Rattle.listing.specs.Text.{digit, decimal_in, decimal}
+use Rattle.listing.specs.Listing.{line_feed, space, line_for, reads, ended, decides, listed_by, listed}
 
 -- ---- the rule
 

@@ -3,7 +3,8 @@ use Rattle.std.specs.Prelude.{◌≡◌, Bool, true, false, cond, ◌&&◌, ◌|
 use Rattle.std.proofs.Common.{sym, ◌∙◌}
 use Rattle.lists.specs.Writing.{over}
 use Rattle.pebbling.specs.Recursion.{total, schedule, positions, work, put_out}
-use Rattle.listing.specs.Text.{bytes, decimal}
+use Rattle.printing.specs.Names.{bytes, name_of}
+use Rattle.listing.specs.Text.{decimal}
 
 -- ---- marks
 
@@ -17,12 +18,6 @@ abbrev pub comma : ℕ
 comma = 44
 
 -- ---- the line that is read
-
-unfoldable pub name_of : ℕ → List ℕ
-name_of zero = bytes "rushing"
-name_of (suc zero) = bytes "speed-1"
-name_of (suc (suc zero)) = bytes "speed-2"
-name_of (suc (suc (suc s))) = bytes "optimal"
 
 -- the line for schedule s and k: the name, one space, k in decimal
 unfoldable pub line_for : ℕ → ℕ → List ℕ

@@ -1,12 +1,5 @@
--- Text as bytes: a quoted text, and a number in decimal. Assumes nothing.
+-- A number in decimal, as bytes. Assumes nothing.
 use Rattle.std.specs.Prelude.{cond, List, [], ◌∷◌, ◌++◌, ℕ, zero, suc, ◌+◌, ◌/◌, ◌%◌, ltb}
-use Prim.Native.Char.{code}
-use Prim.Native.String.{String, [] as none, ◌∷◌ as ◌then◌}
-
--- the bytes of a quoted text
-unfoldable pub bytes : String → List ℕ
-bytes none = []
-bytes (c then cs) = code c ∷ bytes cs
 
 -- a digit in ASCII
 abbrev pub digit : ℕ → ℕ

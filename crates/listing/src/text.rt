@@ -1,38 +1,54 @@
-// Numbers written into a text. A function that writes takes the place to write from, `at`, and answers the place behind what
-// it wrote.
-ghost use Rattle.std.specs.Prelude.{◌≡◌, ◌+◌, ◌≤◌, ◌<◌, length};
-ghost use Rattle.lists.specs.Written.{Written};
+// A text that is written from its front on, and what is written into it: bytes, and numbers in decimal.
+ghost use Rattle.std.specs.Prelude.{[], ◌∷◌, ◌+◌, ◌≤◌, ◌<◌, length};
 ghost use Rattle.listing.specs.Text.{decimal};
-ghost use Rattle.listing.specs.Text.{digit as digit_of};
 ghost use Rattle.listing.specs.Listing.{field};
+ghost use Rattle.listing.specs.Steps.{Put};
 
-fn digit(d: u32) -> u8
-    requires { d < 10 }
-    ensures { result ≡ digit_of d }
-{
-    48 + d as u8
+// A text, and how far it is written.
+#[derive(Drop)]
+pub struct Page<'a> {
+    pub text: &'a mut [u8],
+    // The place behind what is written so far.
+    pub at: usize,
 }
 
-// A number in decimal, without leading zeros.
-pub fn put_decimal(n: u32, at: usize, text: &mut [u8]) -> usize
-    requires { at + length (decimal n) ≤ length text.old }
-    ensures { Written (decimal n) at text.old result text.new }
-{
-    if n < 10 {
-        text[at] = digit(n);
-        return at + 1;
+impl Page<'_> {
+    // Bytes.
+    pub fn put(&mut self, piece: &[u8])
+        requires { self.old.at + length piece.now ≤ length self.old.text.now }
+        ensures { Put piece.now self.old self.new }
+    {
+        self.at = records::put(piece, self.at, self.text);
     }
-    let next = put_decimal(n / 10, at, text);
-    text[next] = digit(n % 10);
-    next + 1
-}
 
-// A number, and the mark behind it.
-pub fn put_field(n: u32, mark: u8, at: usize, text: &mut [u8]) -> usize
-    requires { at + length (field n mark) ≤ length text.old }
-    ensures { Written (field n mark) at text.old result text.new }
-{
-    let next = put_decimal(n, at, text);
-    text[next] = mark;
-    next + 1
+    // One byte.
+    fn put_byte(&mut self, byte: u8)
+        requires { self.old.at < length self.old.text.now }
+        ensures { Put (byte ∷ []) self.old self.new }
+    {
+        self.text[self.at] = byte;
+        self.at += 1;
+    }
+
+    // A number in decimal, without leading zeros.
+    pub fn put_decimal(&mut self, n: u32)
+        requires { self.old.at + length (decimal n) ≤ length self.old.text.now }
+        ensures { Put (decimal n) self.old self.new }
+    {
+        if n < 10 {
+            self.put_byte(b'0' + n as u8);
+        } else {
+            self.put_decimal(n / 10);
+            self.put_byte(b'0' + (n % 10) as u8);
+        }
+    }
+
+    // A number, and the mark behind it.
+    pub fn put_field(&mut self, n: u32, mark: u8)
+        requires { self.old.at + length (field n mark) ≤ length self.old.text.now }
+        ensures { Put (field n mark) self.old self.new }
+    {
+        self.put_decimal(n);
+        self.put_byte(mark);
+    }
 }

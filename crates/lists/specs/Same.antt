@@ -1,12 +1,21 @@
 -- Whether two lists hold the same bytes. Assumes nothing.
 use Rattle.std.specs.Prelude.{◌≡◌, refl, Bool, true, false, ◌&&◌, List, [], ◌∷◌, ℕ, eqb}
-use Rattle.std.proofs.Common.{sym, true≢false, eq-eqb, eqb-true}
+use Rattle.std.specs.Cmp.Lexicographic.{pointwise}
+use Rattle.std.proofs.Common.{sym, ap, true≢false, eq-eqb, eqb-true}
 
 unfoldable pub same : List ℕ → List ℕ → Bool
 same [] [] = true
 same [] (y ∷ ys) = false
 same (x ∷ xs) [] = false
 same (x ∷ xs) (y ∷ ys) = eqb x y && same xs ys
+
+-- it is what `==` says of two slices of bytes
+pub same_bytes : (a b : List ℕ) → pointwise eqb a b ≡ same a b
+unfolding same
+same_bytes [] [] = refl
+same_bytes [] (y ∷ b) = refl
+same_bytes (x ∷ a) [] = refl
+same_bytes (x ∷ a) (y ∷ b) = ap (λ (r : Bool). eqb x y && r) (same_bytes a b)
 
 -- ---- then they are equal lists
 

@@ -6,7 +6,7 @@ use Rattle.std.proofs.Math.ListN.{get_or-append}
 use Rattle.std.proofs.Math.Seq.{take-append_seam}
 
 -- `front` over the front of `old`, whose other entries stay
-abbrev pub over : List ℕ → List ℕ → List ℕ
+abbrev pub over : {A : Type 0} → List A → List A → List A
 over front old = front ++ drop (length front) old
 
 pub over_length : (front old : List ℕ) → length front ≤ length old → length (over front old) ≡ length old

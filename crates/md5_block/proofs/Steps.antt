@@ -1,8 +1,10 @@
 -- Laws of the steps: the code's step is the definition's, and runs of steps join. Assumes nothing.
-use Rattle.std.proofs.Common.{◌≡◌, ℕ, zero, suc, ◌+◌, ◌*◌, ◌%◌, ◌^◌, ◌<◌, Bool, ◌&&◌, eqb, ltb, List, [], ◌∷◌, get_or, sym, ap, ◌∙◌, add_assoc, arith, eqb→eq, ltb→lt}
+use Rattle.std.proofs.Common.{◌≡◌, ℕ, zero, suc, ◌+◌, ◌*◌, ◌%◌, ◌^◌, ◌<◌, Bool, ◌&&◌, eqb, ltb, List, [], ◌∷◌, get_or, sym, ap, ◌∙◌, add_assoc, arith, eqb→eq, ltb→lt, refl, mod-eq_of_lt, ◌-◌}
+use Rattle.std.specs.Int.{w32, rotate_left as turn}
 use native.Mathlib.Nat.{mod-add-mod}
-use Rattle.tables.specs.Tabled.{below, and_left, and_right}
-use Rattle.md5_block.specs.Md5.{by_round, mix, word_number, additive, rotation, rotate_left, step, steps_from, words, added, block_of}
+use Rattle.tables.specs.Tabled.{Tabled, tabled, below, and_left, and_right}
+use Rattle.md5_block.specs.declared.TheConstants.{ADD, ROT}
+use Rattle.md5_block.specs.Md5.{by_round, mix, word_number, sine, additive, rotation, rotate_left, step, steps_from, words, added, block_of}
 
 -- the strides by which the code finds the message word
 abbrev pub stride : ℕ → ℕ
@@ -31,24 +33,33 @@ rotation_range i h =
 wrap_once : (a b c d : ℕ) → (((a + b) % 2 ^ 32 + c) % 2 ^ 32 + d) % 2 ^ 32 ≡ (a + b + c + d) % 2 ^ 32
 wrap_once a b c d = simp (mod-add-mod, add_assoc)
 
+-- the library's rotation, which takes remainders that change nothing where it turns by 1 to 31
+turned : (x n : ℕ) → (0 < n) × (n < 32) → turn w32 x n ≡ rotate_left x n
+unfolding rotate_left
+turned x n h =
+    let p : n % 32 ≡ n = mod-eq_of_lt h.1 in
+    let q : (32 - n) % 32 ≡ 32 - n = mod-eq_of_lt (omega arith) in
+    rw (p, q) refl
+
+-- the tables are those of the definition, as the checker computes at each entry
+adds : Tabled 64 additive ADD
+unfolding sine additive
+adds = tabled tt
+
+turns_by : Tabled 64 rotation ROT
+unfolding rotation
+turns_by = tabled tt
+
 -- the code's step, a sum at a time, is the definition's
-pub step_is : (x s : List ℕ) (i : ℕ) {k f m w additive_word t turn rotated a : ℕ}
-    → k ≡ word_number i
+pub step_is : (x s : List ℕ) (i : ℕ) → i < 64
+    → {f k r : ℕ}
     → f ≡ mix i (get_or s 1 0) (get_or s 2 0) (get_or s 3 0)
-    → m ≡ (get_or s 0 0 + f) % 2 ^ 32
-    → w ≡ (m + get_or x k 0) % 2 ^ 32
-    → additive_word ≡ additive i
-    → t ≡ (w + additive_word) % 2 ^ 32
-    → turn ≡ rotation i
-    → rotated ≡ rotate_left t turn
-    → a ≡ (get_or s 1 0 + rotated) % 2 ^ 32
-    → get_or s 3 0 ∷ a ∷ get_or s 1 0 ∷ get_or s 2 0 ∷ [] ≡ step x s i
+    → k ≡ word_number i
+    → r ≡ turn w32 ((((get_or s 0 0 + f) % 2 ^ 32 + get_or x k 0) % 2 ^ 32 + get_or ADD i 0) % 2 ^ 32) (get_or ROT i 0)
+    → get_or s 3 0 ∷ (get_or s 1 0 + r) % 2 ^ 32 ∷ get_or s 1 0 ∷ get_or s 2 0 ∷ [] ≡ step x s i
 unfolding step
-step_is x s i {k} {f} {m} {w} {additive_word} {t} {turn} {rotated} {a} e₁ e₂ e₃ e₄ e₅ e₆ e₇ e₈ e₉ =
-    let word : get_or x k 0 ≡ get_or x (word_number i) 0 = ap (λ (j : ℕ). get_or x j 0) e₁ in
-    let sum : t ≡ (get_or s 0 0 + mix i (get_or s 1 0) (get_or s 2 0) (get_or s 3 0) + get_or x (word_number i) 0 + additive i) % 2 ^ 32
-    = cc (wrap_once (get_or s 0 0) f (get_or x k 0) additive_word) in
-    cc
+step_is x s i h {f} {k} {r} e₁ e₂ e₃ =
+    rw (e₃, e₁, e₂, adds.at i h, turns_by.at i h, wrap_once, turned _ _ (rotation_range i h)) refl
 
 -- m steps and n more
 pub steps_add : (x s : List ℕ) (i m n : ℕ) → steps_from x s i (m + n) ≡ steps_from x (steps_from x s i m) (i + m) n
@@ -68,7 +79,7 @@ steps_add x s i (suc m) n =
 goes_on : (x s : List ℕ) (i m n : ℕ) {t : List ℕ} → t ≡ steps_from x s i m → steps_from x t (i + m) n ≡ steps_from x s i (m + n)
 goes_on x s i m n e = ap (λ (l : List ℕ). steps_from x l (i + m) n) e ∙ sym (steps_add x s i m n)
 
--- four runs of m steps, one behind the other: at m = 1, 4 and 16
+-- four runs of m steps, one behind the other: at m = 1 and 4
 pub four_runs : (x s : List ℕ) (i m : ℕ) {s₁ s₂ s₃ r : List ℕ}
     → s₁ ≡ steps_from x s i m
     → s₂ ≡ steps_from x s₁ (i + m) m
@@ -87,17 +98,20 @@ four_runs x s i m {s₁} {s₂} {s₃} {r} e₁ e₂ e₃ e₄ =
     ∙ goes_on x s i m (m + (m + m)) e₁
     ∙ ap (steps_from x s i) n
 
+-- the rounds before number `round` and that one
+pub one_round_more : (x s : List ℕ) (round : ℕ) {t r : List ℕ}
+    → t ≡ steps_from x s 0 (16 * round)
+    → r ≡ steps_from x t (16 * round) 16
+    → r ≡ steps_from x s 0 (16 * (round + 1))
+one_round_more x s round {t} {r} e f =
+    let p : 16 * round ≡ 0 + 16 * round = omega arith in
+    let n : 16 * round + 16 ≡ 16 * (round + 1) = omega arith in
+    f ∙ ap (λ (j : ℕ). steps_from x t j 16) p ∙ goes_on x s 0 (16 * round) 16 e ∙ ap (steps_from x s 0) n
+
 -- the registers added to the state that came in
-pub block_is : (s m t : List ℕ) {x : List ℕ} {a b c d : ℕ}
+pub block_is : (s m t : List ℕ) {x : List ℕ}
     → x ≡ words m
     → t ≡ steps_from x s 0 64
-    → a ≡ (get_or s 0 0 + get_or t 0 0) % 2 ^ 32
-    → b ≡ (get_or s 1 0 + get_or t 1 0) % 2 ^ 32
-    → c ≡ (get_or s 2 0 + get_or t 2 0) % 2 ^ 32
-    → d ≡ (get_or s 3 0 + get_or t 3 0) % 2 ^ 32
-    → a ∷ b ∷ c ∷ d ∷ [] ≡ block_of s m
-unfolding added block_of
-block_is s m t e f p q r u =
-    let g : t ≡ steps_from (words m) s 0 64 = f ∙ ap (λ (y : List ℕ). steps_from y s 0 64) e in
-    let h : added s t ≡ block_of s m = ap (added s) g in
-    cc
+    → added s t ≡ block_of s m
+unfolding block_of
+block_is s m t e f = ap (added s) (f ∙ ap (λ (y : List ℕ). steps_from y s 0 64) e)

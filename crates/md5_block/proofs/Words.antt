@@ -1,5 +1,8 @@
 -- Laws of the message words: a list with word j at place j, for each j below 16, is the block's words. Assumes nothing.
-use Rattle.std.proofs.Common.{◌≡◌, ℕ, zero, suc, ◌+◌, ◌<◌, List, length, get_or, set, sym, refl, ap, ◌∙◌, ne_of_lt, arith, get_or-set_other, get_or-set_same, ext_get_or, below_more}
+use Rattle.std.proofs.Common.{◌≡◌, ℕ, zero, suc, ◌+◌, ◌<◌, List, length, get_or, sym, refl, ap, ◌∙◌, subst, arith, ext_get_or}
+use Rattle.std.specs.Fn.{Called}
+use Rattle.std.specs.Array.{IsFromFnResultFrom}
+use denote.Param.Members.{Mut}
 use Rattle.md5_block.specs.Md5.{word_at, words_from, words}
 
 words_length : (m : List ℕ) (j n : ℕ) → length (words_from m j n) ≡ n
@@ -22,9 +25,12 @@ all_words m x l f =
     let e : 0 + k ≡ k = omega arith in
     f k h' ∙ ap (word_at m) (sym e) ∙ sym (words_at m 0 16 k h'))
 
--- one word more is in its place
-pub one_word : (m x : List ℕ) (j v : ℕ) → j < length x → v ≡ word_at m j
-    → ((k : ℕ) → k < j → get_or x k 0 ≡ word_at m k)
-    → (k : ℕ) → k < j + 1 → get_or (set x j v) k 0 ≡ word_at m k
-one_word m x j v l e f =
-    below_more _ j (λ k h. get_or-set_other x j k v 0 (ne_of_lt h) ∙ f k h) (get_or-set_same x j v 0 l ∙ e)
+-- what `array::from_fn` made, where each call gives h of its index and leaves the closure as it was
+pub made_by : {F B : Type 0} (g : Mut F (ℕ × Unit {0}) B) (f : F) (h : ℕ → B) → ((k : ℕ) (y : B) (q : F) → Called g f (k, tt) y q → (y ≡ h k) × (q ≡ f))
+    → (ys : List B) (i n : ℕ) → IsFromFnResultFrom g f ys i n → (k j : ℕ) (d : B) → k < n → i + k ≡ j → get_or ys j d ≡ h j
+made_by g f h calls ys i zero m k j d l e = absurd (omega arith)
+made_by g f h calls ys i (suc n) (q, y, at, c, m) zero j d l e =
+    let z : i ≡ j = omega arith in
+    rw (← z) (at.1 d ∙ (calls i y q c).0)
+made_by {F} g f h calls ys i (suc n) (q, y, at, c, m) (suc k) j d l e =
+    made_by g f h calls ys (i + 1) n (subst (λ (q : F). IsFromFnResultFrom g q ys (i + 1) n) (calls i y q c).1 m) k j d (omega arith) (omega arith)

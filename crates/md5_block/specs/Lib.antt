@@ -1,3 +1,2 @@
 pub mod Md5
-pub mod Lent
 pub mod Example

@@ -7,7 +7,9 @@ ghost use Rattle.aes.specs.Aes.{cipher};
 ghost use Rattle.oneway.specs.Step.{step, padded, little_endian_words, digest};
 ghost use Rattle.oneway.specs.Step.{known as is_known, width as width_of};
 
-#[derive(Clone, Copy)]
+// The function stays a number: the calls are lent any number, the clause of `card::anchor` makes a chain of it whatever it is, and the
+// theorems on chains speak of every one.
+#[derive(Clone, Copy, Debug, PartialEq, Eq)]
 pub struct Chain {
     pub function: u32,
 }
@@ -34,52 +36,32 @@ fn padding(value: [u8; 16]) -> [u8; 64]
     ensures { result ≡ padded value }
 {
     let mut block = [0u8; 64];
+    block[..16].copy_from_slice(&value);
     block[16] = 0x80;
     block[56] = 128;
-    for i in 0..16 {
-        block[i] = value[i];
-    }
     block
 }
 
-// Four words as 16 bytes, the low byte of each first.
+// Four words as 16 bytes, the low byte of each first: word by word, since a proof knows no byte of what is written through chunks.
 fn low_byte_first(s: [u32; 4]) -> [u8; 16]
     ensures { result ≡ little_endian_words s }
 {
-    let a = s[0];
-    let b = s[1];
-    let c = s[2];
-    let d = s[3];
-    [
-        (a % 256) as u8,
-        (a / 256 % 256) as u8,
-        (a / 65_536 % 256) as u8,
-        (a / 16_777_216 % 256) as u8,
-        (b % 256) as u8,
-        (b / 256 % 256) as u8,
-        (b / 65_536 % 256) as u8,
-        (b / 16_777_216 % 256) as u8,
-        (c % 256) as u8,
-        (c / 256 % 256) as u8,
-        (c / 65_536 % 256) as u8,
-        (c / 16_777_216 % 256) as u8,
-        (d % 256) as u8,
-        (d / 256 % 256) as u8,
-        (d / 65_536 % 256) as u8,
-        (d / 16_777_216 % 256) as u8,
-    ]
+    let mut bytes = [0u8; 16];
+    bytes[..4].copy_from_slice(&s[0].to_le_bytes());
+    bytes[4..8].copy_from_slice(&s[1].to_le_bytes());
+    bytes[8..12].copy_from_slice(&s[2].to_le_bytes());
+    bytes[12..].copy_from_slice(&s[3].to_le_bytes());
+    bytes
 }
 
-// MD5 of 16 bytes: its one block from the initial state (RFC 1321, section 3.3).
+// MD5's state before the first block (RFC 1321, section 3.3).
+const INITIAL: [u32; 4] = [0x6745_2301, 0xefcd_ab89, 0x98ba_dcfe, 0x1032_5476];
+
+// MD5 of 16 bytes: its one block from the initial state.
 fn md5_of(value: [u8; 16]) -> [u8; 16]
     ensures { result ≡ digest value }
 {
-    let message = padding(value);
-    let s = md5_block::block(
-        [0x6745_2301, 0xefcd_ab89, 0x98ba_dcfe, 0x1032_5476],
-        &message,
-    );
-    low_byte_first(s)
+    low_byte_first(md5_block::block(INITIAL, &padding(value)))
 }
 
 // The all-zero block encrypted by AES-128 under the 16 bytes as key.
@@ -89,38 +71,19 @@ fn aes_of(value: [u8; 16]) -> [u8; 16]
     aes::encrypt(value, [0u8; 16])
 }
 
-// The bytes of a slice of 16.
-fn taken(bytes: &[u8]) -> [u8; 16]
-    requires { length bytes.now ≡ 16 }
-    ensures { result ≡ bytes.now }
-{
-    let mut value = [0u8; 16];
-    for i in 0..16 {
-        value[i] = bytes[i];
-    }
-    value
-}
-
-// The bytes of `value` into a slice of 16.
-fn put(value: [u8; 16], bytes: &mut [u8])
-    requires { length bytes.old ≡ 16 }
-    ensures { bytes.new ≡ value }
-{
-    for i in 0..16 {
-        bytes[i] = value[i];
-    }
-}
-
-// One step of the chain, in place: the value that comes after the one lent. The chain's function has to be a known one.
+// One step of the chain, in place: the value that comes after the one lent. The chain's function has to be a known one; a `Chain` cannot
+// say that, nor a slice its length, so whoever steps along a chain asks for both in clauses of its own.
 pub fn apply(chain: Chain, value: &mut [u8])
     requires known_function { T (is_known chain.function) }
     requires whole_value { length value.old ≡ width_of chain }
     ensures { value.new ≡ step chain value.old }
 {
-    let v = taken(value);
-    if chain.function == 0 {
-        put(md5_of(v), value);
+    let v = *value.as_array().unwrap();
+    // A test and no table of functions: there are two, and a call through a table is not inlined.
+    let next = if chain.function == 0 {
+        md5_of(v)
     } else {
-        put(aes_of(v), value);
-    }
+        aes_of(v)
+    };
+    value.copy_from_slice(&next);
 }

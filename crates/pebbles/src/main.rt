@@ -3,18 +3,9 @@
 #![tactic(auto)]
 
 ghost use Rattle.std.specs.Io.{ReadsAtMost};
-ghost use Rattle.pebbles.specs.Reading.{Within};
 
 use std::io;
 use std::io::{ErrorKind, Read};
-
-// What reading came to.
-enum Reading {
-    // So many bytes came: they decide, or the input ended behind them.
-    Line(usize),
-    // A read failed, which is not the end of the input.
-    Failed(io::Error),
-}
 
 // Reads once. A read that a signal broke off before any byte came is tried again; a proved loop has to end, so the tries are counted, up
 // to a number that no run reaches.
@@ -30,27 +21,28 @@ fn read_some(from: &mut impl Read, room: &mut [u8]) -> io::Result<usize>
     Err(io::Error::from(ErrorKind::Interrupted))
 }
 
-// Reads, a piece at a time, until the bytes decide or the input ends. A read may bring any number of bytes from one up. Where the room is
-// full there are `ENOUGH` bytes, which decide.
-fn read_line(from: &mut impl Read, input: &mut [u8]) -> Reading
-    ensures { Within result input.new }
+// Reads, a piece at a time, until the bytes decide or the input ends, and answers how many came. A read may bring any number of bytes from
+// one up; one that fails is not the end of the input. Where the room is full there are `ENOUGH` bytes, which decide.
+fn read_line(from: &mut impl Read, input: &mut [u8]) -> io::Result<usize>
+    ensures { ReadsAtMost result input.new }
 {
     let mut count = 0;
     while !listing::decides(&input[..count]) {
-        match read_some(from, &mut input[count..]) {
-            Err(e) => return Reading::Failed(e),
-            Ok(0) => return Reading::Line(count),
-            Ok(more) => count += more,
+        let more = read_some(from, &mut input[count..])?;
+        if more == 0 {
+            break;
         }
+        count += more;
     }
-    Reading::Line(count)
+    Ok(count)
 }
 
 fn main(rt: HostRuntime) {
+    // Arrays with room for the most, since the program asks for no memory.
     let mut input = [0u8; listing::ENOUGH];
     let count = match read_line(&mut rt.stdin(), &mut input) {
-        Reading::Line(count) => count,
-        Reading::Failed(e) => {
+        Ok(count) => count,
+        Err(e) => {
             let _ = eprintln!(rt; "pebbles: standard input could not be read: {e}");
             let _ = eprintln!(rt;
                 "Give it a line from a terminal, a pipe or a file, as in: echo optimal 2 | pebbles"

@@ -33,9 +33,6 @@ bits_law x h =
 pub next_power : (k p : ℕ) → Power (k + 1) p → p ≡ 2 ^ suc k
 next_power k p a = a.is ∙ ap (λ (x : ℕ). 2 ^ x) (add-one k)
 
-pub left_law : (k r p : ℕ) → r ≤ 2 ^ suc k → Power (k + 1) p → (r ≤ p) × Left k r (p - r)
-left_law k r p h a = (omega (arith, next_power k p a), record { whole = omega (arith, next_power k p a) })
-
 -- ---- the hashes of a round
 
 module _ (k r whole : ℕ) (p : Power k whole) where
@@ -107,7 +104,7 @@ schedule_3 s k r e = rw e refl
 
 -- ---- the hashes that are left, and those that are done
 
-pub curve_fits : (k n l : ℕ) → k ≤ 22 → n ≤ 1048576 → n * (k - l) ≤ 23068672
+curve_fits : (k n l : ℕ) → k ≤ 22 → n ≤ 1048576 → n * (k - l) ≤ 23068672
 curve_fits k n l h b = let d : k - l ≤ 22 = omega arith in omega (arith, mul-le-mul b d)
 
 pub curve_law : (k n l p : ℕ) → k ≤ 22 → n ≤ 1048576 → Bits n l → Power l p → Curve k n (n * (k - l) + p)
@@ -169,7 +166,7 @@ module _ (k r half : ℕ) (0<k : 0 < k) (0<r : 0 < r) (h : r < 2 ^ k) (p : Power
         (omega (arith, two_halves k 0<k), record { is = omega arith; small = omega arith })
 
     module _ (c : ℕ) (a : Left k r c) where
-      pub left_asked : (2 ^ k ≤ c) × (c ≤ 2 ^ k + 2 ^ (k - 1))
+      left_asked : (2 ^ k ≤ c) × (c ≤ 2 ^ k + 2 ^ (k - 1))
       left_asked = (omega arith, omega (arith, two_halves k 0<k))
 
       pub busy_optimal : (x : ℕ) → x ≡ left k (c - 2 ^ k) → (x ≤ whole - 1) × Done optimal k r (whole - 1 - x)

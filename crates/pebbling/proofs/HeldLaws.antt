@@ -50,9 +50,6 @@ module _ (s j n more half : ℕ) (ok : Aside s (suc j) n more) (q : Power j half
           side_length t j n (0 + 2 ^ j),
         )
 
-    own_few : more + own ≤ 41
-    own_few = omega (arith, ok.few, both)
-
     both_asks : (n ≡ half → ⊥) → Aside s j n (more + own)
     both_asks e =
         record {
@@ -75,9 +72,6 @@ module _ (s k n more j half : ℕ) (e : suc j ≡ k) (ok : Aside s k n more) (q 
   aside_late h m f = rw (← e) (f ∙ ap (λ (x : ℕ). more + x) (late s j n more half ok' q h))
 
   module _ (h : n ≤ half) (x own : ℕ) (d : Done (schedule s) j n x) (o : Holds j x own) where
-    pub aside_few : more + own ≤ 41
-    aside_few = own_few s j n more half ok' q h x own d o
-
     pub aside_last : n ≡ half → more + own ≡ more + side_held_count (schedule s) k n
     aside_last f = rw (← e) (last s j n more half ok' q h x own d o f)
 

@@ -11,7 +11,7 @@ use Rattle.lists.specs.Written.{Written, written_taken}
 use Rattle.refusals.specs.Numbers.{said_of, number_not_0}
 use Rattle.refusals.specs.declared.Refusal.{Refusal}
 use Rattle.refusals.specs.declared.Refusal.TheVariants.{TooManyTicks, UnknownSchedule, WrongLength, BadRecord}
-use Rattle.pebbling.specs.declared.PositionsAnswer.TheVariants.{Listed, Refused}
+use Rattle.std.specs.Prelude.{Err, Ok}
 use Rattle.pebbling.specs.Recursion.{schedule, positions, work}
 use Rattle.pebbling.specs.SideBySide.{positions_ended, work_ended}
 use Rattle.pebbling.specs.Promises.{Power}
@@ -20,33 +20,33 @@ use Rattle.pebbling.specs.Slots.{enough_slots, slots_small}
 use Rattle.pebbling.proofs.HashLaws.{next_power}
 
 module _ (k s r : ℕ) (list : List ℕ) where
-  refused : (why : Refusal) → positions_must_say k s r list ≡ said_of why → Positioned k s r list (Refused why) list
+  refused : (why : Refusal) → positions_must_say k s r list ≡ said_of why → Positioned k s r list (Err why) list
   unfolding positions_list
   refused why e = record { says = sym e; leaves = rw (e, number_not_0 why) refl }
 
-  pub refused_k : 20 < k → Positioned k s r list (Refused TooManyTicks) list
+  pub refused_k : 20 < k → Positioned k s r list (Err TooManyTicks) list
   unfolding positions_must_say
   refused_k h = refused TooManyTicks (simp (lt-ltb 20 k h))
 
   module _ (k≤20 : k ≤ 20) where
-    pub refused_schedule : 3 < s → Positioned k s r list (Refused UnknownSchedule) list
+    pub refused_schedule : 3 < s → Positioned k s r list (Err UnknownSchedule) list
     unfolding positions_must_say
     refused_schedule h = refused UnknownSchedule (simp (le-ltb 20 k k≤20, lt-ltb 3 s h))
 
     module _ (s≤3 : s ≤ 3) where
-      pub refused_zero : r ≡ 0 → Positioned k s r list (Refused BadRecord) list
+      pub refused_zero : r ≡ 0 → Positioned k s r list (Err BadRecord) list
       unfolding positions_must_say
       refused_zero e = refused BadRecord (simp (le-ltb 20 k k≤20, le-ltb 3 s s≤3, eq-eqb r 0 e))
 
       module _ (r≢0 : r ≡ 0 → ⊥) (end : ℕ) (p : Power (k + 1) end) where
-        pub refused_late : end < r → Positioned k s r list (Refused BadRecord) list
+        pub refused_late : end < r → Positioned k s r list (Err BadRecord) list
         unfolding positions_must_say
         refused_late h =
             refused BadRecord (simp (le-ltb 20 k k≤20, le-ltb 3 s s≤3, ne_eqb r 0 r≢0, lt-ltb (2 ^ suc k) r (omega (arith, next_power k end p))))
 
         module _ (in_time : r ≤ end) where
           -- refusal 4 is all that may still come
-          by_length : (b : ℕ) → length (positions (schedule s) k r 0) ≡ b → length list < b → Positioned k s r list (Refused WrongLength) list
+          by_length : (b : ℕ) → length (positions (schedule s) k r 0) ≡ b → length list < b → Positioned k s r list (Err WrongLength) list
           unfolding positions_must_say
           by_length b e h =
               refused WrongLength (simp (
@@ -58,7 +58,7 @@ module _ (k s r : ℕ) (list : List ℕ) where
               ))
 
           listed : (n w : ℕ) (list' : List ℕ) → n ≡ length (positions (schedule s) k r 0) → w ≡ work (schedule s) k r → n ≤ length list
-              → list' ≡ over (positions (schedule s) k r 0) list → Positioned k s r list (Listed n w) list'
+              → list' ≡ over (positions (schedule s) k r 0) list → Positioned k s r list (Ok (record { count = n; hashes = w })) list'
           unfolding positions_must_say positions_list
           listed n w list' a b h e =
               let t : positions_must_say k s r list ≡ 0 ∷ length (positions (schedule s) k r 0) ∷ work (schedule s) k r ∷ [] =
@@ -72,7 +72,7 @@ module _ (k s r : ℕ) (list : List ℕ) where
               record { says = rw (a, b) (sym t); leaves = rw t e }
 
           -- all rounds are run, and nothing is held
-          pub listed_none : r ≡ end → Positioned k s r list (Listed 0 0) list
+          pub listed_none : r ≡ end → Positioned k s r list (Ok (record { count = 0; hashes = 0 })) list
           listed_none e =
               let n : positions (schedule s) k r 0 ≡ [] = positions_ended (schedule s) k r 0 (omega (arith, next_power k end p)) in
               listed 0 0 list (sym (ap length n)) (sym (work_ended (schedule s) k r (omega (arith, next_power k end p)))) (omega arith) (rw n refl)
@@ -95,7 +95,7 @@ module _ (k s r : ℕ) (list : List ℕ) where
               pub few : n ≤ 38
               few = omega (arith, count, aside_asked.1)
 
-              pub refused_length : length list < n → Positioned k s r list (Refused WrongLength) list
+              pub refused_length : length list < n → Positioned k s r list (Err WrongLength) list
               refused_length h = by_length n (sym count) h
 
               module _ (room : n ≤ length list) where
@@ -103,8 +103,5 @@ module _ (k s r : ℕ) (list : List ℕ) where
                 there : take n aside' ≡ positions (schedule s) k r 0
                 there = written_taken (positions (schedule s) k r 0) aside aside' n (omega (arith, aside_asked.1)) first.0
 
-                pub copy_asked : length (take n aside') ≤ length list
-                copy_asked = omega (arith, ap length there, count)
-
-                pub listed_all : (list' : List ℕ) → list' ≡ over (take n aside') list → Positioned k s r list (Listed n w) list'
+                pub listed_all : (list' : List ℕ) → list' ≡ over (take n aside') list → Positioned k s r list (Ok (record { count = n; hashes = w })) list'
                 listed_all list' e = listed n w list' count first.1 room (e ∙ rw there refl)

@@ -10,57 +10,92 @@ ghost use Rattle.pebbling.specs.Recursion.{schedule as hashes_of};
 use super::powers::{bits, power};
 use super::{RoundNumber, RoundsLeft, rounds_left};
 
-// Everything in the last preparing round.
-fn rushing_in(k: u32, round: RoundNumber) -> u32
-    requires { k ≤ 20 }
-    ensures { result ≡ rushing k round.0 }
-{
-    let r = round.0;
-    let last = power(k) - 1;
-    if r == last { last } else { 0 }
+// P_k in a preparing round, with k from 1 on.
+#[derive(Clone, Copy, Debug, PartialEq, Eq)]
+struct Preparing {
+    k: u32,
+    round: RoundNumber,
+    ghost within: { (0 < k) × (k ≤ 20) × (round.0 < 2 ^ k) },
 }
 
-// Nothing in the first half, then two, and one at the end.
-fn speed2_in(k: u32, round: RoundNumber) -> u32
-    requires { (0 < k) × (k ≤ 20) }
-    ensures { result ≡ speed2 k round.0 }
-{
-    let r = round.0;
-    let half = power(k - 1);
-    let last = power(k) - 1;
-    if r < half {
-        return 0;
+impl Preparing {
+    // Everything in the last preparing round.
+    fn rushing_in(self) -> u32
+        ensures { result ≡ rushing self.k self.round.0 }
+    {
+        let r = self.round.0;
+        let last = power(self.k) - 1;
+        if r == last { last } else { 0 }
     }
-    if r < last { 2 } else { 1 }
-}
 
-// Nothing in the first half, then the article's formula: the lengths are those of what is left to round 2^k, and of
-// the remainder of 2r by the power of two above it.
-fn optimal_in(k: u32, round: RoundNumber) -> u32
-    requires { (0 < k) × (k ≤ 20) × (round.0 < 2 ^ k) }
-    ensures { result ≡ optimal k round.0 }
-{
-    let r = round.0;
-    let half = power(k - 1);
-    if r < half {
-        return 0;
+    // Nothing in the first half, then two, and one at the end.
+    fn speed2_in(self) -> u32
+        ensures { result ≡ speed2 self.k self.round.0 }
+    {
+        let r = self.round.0;
+        let half = power(self.k - 1);
+        let last = power(self.k) - 1;
+        if r < half {
+            return 0;
+        }
+        if r < last { 2 } else { 1 }
     }
-    let left = rounds_left(k, round);
-    let above = power(bits(left.0 - power(k)));
-    let rest = bits(2 * r % above);
-    ((k + r) % 2 + (k + 1) - rest) / 2
+
+    // Nothing in the first half, then the article's formula: the lengths are those of what is left to round 2^k, and of
+    // the remainder of 2r by the power of two above it.
+    fn optimal_in(self) -> u32
+        ensures { result ≡ optimal self.k self.round.0 }
+    {
+        let r = self.round.0;
+        let half = power(self.k - 1);
+        if r < half {
+            return 0;
+        }
+        let left = rounds_left(self.k, self.round);
+        let above = power(bits(left.0 - power(self.k)));
+        let rest = bits(2 * r % above);
+        ((self.k + r) % 2 + (self.k + 1) - rest) / 2
+    }
+
+    // Nothing in the first half, and then two a round.
+    fn speed2_done(self) -> u32
+        requires { 0 < self.round.0 }
+        ensures { Done speed2 self.k self.round.0 result }
+    {
+        let r = self.round.0;
+        if r < power(self.k - 1) {
+            return 0;
+        }
+        2 * r - power(self.k)
+    }
+
+    // Nothing in the first half, and then all but what is left.
+    fn optimal_done(self) -> u32
+        requires { 0 < self.round.0 }
+        ensures { Done optimal self.k self.round.0 result }
+    {
+        let r = self.round.0;
+        let half = power(self.k - 1);
+        if r < half {
+            return 0;
+        }
+        let whole = power(self.k);
+        let left = rounds_left(self.k, self.round);
+        whole - 1 - optimal_left(self.k, whole, left)
+    }
 }
 
-// The hashes of P_k in its preparing round, by the schedule's number.
+// The hashes of P_k in its preparing round, by the schedule's number: a choice between formulas, which closures would only hide.
 pub fn hashes_in(schedule: u32, k: u32, round: RoundNumber) -> u32
     requires { (schedule ≤ 3) × (0 < k) × (k ≤ 20) × (round.0 < 2 ^ k) }
     ensures { result ≡ hashes_of schedule k round.0 }
 {
+    let preparing = Preparing { k, round };
     match schedule {
-        0 => rushing_in(k, round),
+        0 => preparing.rushing_in(),
         1 => 1,
-        2 => speed2_in(k, round),
-        _ => optimal_in(k, round),
+        2 => preparing.speed2_in(),
+        _ => preparing.optimal_in(),
     }
 }
 
@@ -94,34 +129,7 @@ fn optimal_left(k: u32, whole: u32, left: RoundsLeft) -> u32
     ((k + c) % 2 + twice) / 2
 }
 
-// Nothing in the first half, and then two a round.
-fn speed2_done(k: u32, round: RoundNumber) -> u32
-    requires { (0 < k) × (k ≤ 20) × (0 < round.0) × (round.0 < 2 ^ k) }
-    ensures { Done speed2 k round.0 result }
-{
-    let r = round.0;
-    if r < power(k - 1) {
-        return 0;
-    }
-    2 * r - power(k)
-}
-
-// Nothing in the first half, and then all but what is left.
-fn optimal_done(k: u32, round: RoundNumber) -> u32
-    requires { (0 < k) × (k ≤ 20) × (0 < round.0) × (round.0 < 2 ^ k) }
-    ensures { Done optimal k round.0 result }
-{
-    let r = round.0;
-    let half = power(k - 1);
-    if r < half {
-        return 0;
-    }
-    let whole = power(k);
-    let left = rounds_left(k, round);
-    whole - 1 - optimal_left(k, whole, left)
-}
-
-// The hashes that P_k has done before its round, which is at most 2^k, by the schedule's number. Before round
+// The hashes that P_k has done before its round, which is at most 2^k, by the schedule's number likewise. Before round
 // 2^k every schedule has done all of them.
 pub fn hashes_done(schedule: u32, k: u32, round: RoundNumber) -> u32
     requires { (schedule ≤ 3) × (k ≤ 20) × (0 < round.0) × (round.0 ≤ 2 ^ k) }
@@ -132,11 +140,12 @@ pub fn hashes_done(schedule: u32, k: u32, round: RoundNumber) -> u32
     if r == whole {
         return whole - 1;
     }
+    let preparing = Preparing { k, round };
     match schedule {
         0 => 0,
         1 => r - 1,
-        2 => speed2_done(k, round),
-        _ => optimal_done(k, round),
+        2 => preparing.speed2_done(),
+        _ => preparing.optimal_done(),
     }
 }
 

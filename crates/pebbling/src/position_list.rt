@@ -1,7 +1,6 @@
 // Writes positions into a lent list, pebbler by pebbler in the order in which they fall, and adds up the hashes of the round
-// on the way.
+// on the way. The bounds of schedule, k and round stand in each clause, as in the public functions that are asked for the same numbers.
 ghost use Rattle.std.specs.Prelude.{◌≡◌, suc, ◌+◌, ◌^◌, ◌≤◌, ◌<◌, length};
-ghost use Rattle.lists.specs.Writing.{over};
 ghost use Rattle.lists.specs.Written.{Written};
 ghost use Rattle.pebbling.specs.Recursion.{held, positions, work};
 ghost use Rattle.pebbling.specs.Recursion.{schedule as hashes_of};
@@ -11,20 +10,10 @@ use super::hashes::{hashes_done, hashes_in};
 use super::powers::{bits, power};
 
 // What listing pebblers comes to: the entry behind their last position, and their hashes in the round.
-#[derive(Clone, Copy)]
+#[derive(Clone, Copy, Debug, PartialEq, Eq)]
 pub struct Listing {
     pub end: usize,
     pub hashes: u32,
-}
-
-// Writes positions over the front of a list.
-pub fn copy(from: &[u32], to: &mut [u32])
-    requires { length from.now ≤ length to.old }
-    ensures { to.new ≡ over from.now to.old }
-{
-    for i in 0..from.len() {
-        to[i] = from[i];
-    }
 }
 
 // The hashes of P_k itself in its round: round 2^k has none.
@@ -47,13 +36,12 @@ fn list_own(k: u32, h: u32, base: u32, at: usize, list: &mut [u32]) -> usize
 {
     let whole = power(k);
     list[at] = base + h;
-    let mut i = bits(whole - h);
+    let first = bits(whole - h);
+    // The entry is counted beside i: of what is written through a zipped `iter_mut` a proof knows no element.
     let mut next = at + 1;
-    while i <= k {
-        let place = base + (whole - power(i));
-        list[next] = place;
+    for i in first..k + 1 {
+        list[next] = base + (whole - power(i));
         next += 1;
-        i += 1;
     }
     next
 }

@@ -7,13 +7,12 @@ pub fn power(k: u32) -> u32
     requires { k ≤ 21 }
     ensures { Power k result }
 {
-    let one: u32 = 1;
-    one << k
+    1 << k
 }
 
 // How many binary digits x has: none for 0.
 pub fn bits(x: u32) -> u32
     ensures { Bits x result }
 {
-    32 - u32::leading_zeros(x)
+    u32::BITS - x.leading_zeros()
 }

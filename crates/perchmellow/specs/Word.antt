@@ -1,20 +1,11 @@
 -- The word that an exported call answers: the call's own answer in 64 bits. Assumes nothing.
-use Rattle.std.specs.Prelude.{◌≡◌, ℕ, ◌+◌, ◌*◌, ◌/◌, ◌%◌, ◌^◌, ◌<◌}
+use Rattle.std.specs.Prelude.{◌≡◌, Bool, true, false, Result, Ok, Err, ℕ, ◌+◌, ◌*◌, ◌/◌, ◌%◌, ◌^◌, ◌<◌}
 use Rattle.std.proofs.Common.{arith}
 use Rattle.refusals.specs.Numbers.{number_of}
 use Rattle.refusals.specs.declared.Refusal.{Refusal}
-use Rattle.card.specs.declared.Answer.{Answer}
-use Rattle.card.specs.declared.Answer.TheVariants.{Done, Refused}
-use Rattle.card.specs.declared.RoundAnswer.{RoundAnswer}
-use Rattle.card.specs.declared.RoundAnswer.TheVariants.{Quiet, Tick, Refused as NoRound}
-use Rattle.pebbling.specs.declared.PositionsAnswer.{PositionsAnswer}
-use Rattle.pebbling.specs.declared.PositionsAnswer.TheVariants.{Listed, Refused as NoList}
-use Rattle.post.specs.declared.Answer.{Answer as EnrolAnswer}
-use Rattle.post.specs.declared.Answer.TheVariants.{Done as Enrolled, Refused as NotEnrolled}
-use Rattle.post.specs.declared.OfferAnswer.{OfferAnswer}
-use Rattle.post.specs.declared.OfferAnswer.TheVariants.{Credited, Refused as NoCredit}
-use Rattle.post.specs.declared.SettleAnswer.{SettleAnswer}
-use Rattle.post.specs.declared.SettleAnswer.TheVariants.{Yes, No, Refused as NoVerdict}
+use Rattle.card.specs.declared.Outcome.{Outcome}
+use Rattle.card.specs.declared.Outcome.TheVariants.{Quiet, Tick}
+use Rattle.pebbling.specs.declared.Listed.{Listed}
 
 -- bits 0-7 the refusal's number, 8-15 the kind, 16-39 the first number, 40-63 the second
 abbrev pub packed : ℕ → ℕ → ℕ → ℕ → ℕ
@@ -23,32 +14,37 @@ packed number kind first second = number + kind * 2 ^ 8 + first * 2 ^ 16 + secon
 abbrev pub refused_word : Refusal → ℕ
 refused_word refusal = packed (number_of refusal) 0 0 0
 
+-- a refusal's word, or the one that is said of the value
+abbrev pub word_by : {T : Type 0} → (T → ℕ) → Result T Refusal → ℕ
+word_by value_word (Ok value) = value_word value
+word_by value_word (Err refusal) = refused_word refusal
+
 -- start, rebuild, anchor, and start and anchor of n ticks
-abbrev pub done_word : Answer → ℕ
-done_word Done = packed 0 0 0 0
-done_word (Refused refusal) = refused_word refusal
+abbrev pub done_word : Result (Unit {0}) Refusal → ℕ
+done_word = word_by (λ none. packed 0 0 0 0)
 
-abbrev pub round_word : RoundAnswer → ℕ
-round_word (Quiet hashes) = packed 0 0 0 hashes
-round_word (Tick position hashes) = packed 0 1 position hashes
-round_word (NoRound refusal) = refused_word refusal
+abbrev pub outcome_word : Outcome → ℕ
+outcome_word (Quiet hashes) = packed 0 0 0 hashes
+outcome_word (Tick position hashes) = packed 0 1 position hashes
 
-abbrev pub positions_word : PositionsAnswer → ℕ
-positions_word (Listed count hashes) = packed 0 0 count hashes
-positions_word (NoList refusal) = refused_word refusal
+abbrev pub round_word : Result Outcome Refusal → ℕ
+round_word = word_by outcome_word
 
-abbrev pub enrol_word : EnrolAnswer → ℕ
-enrol_word Enrolled = packed 0 0 0 0
-enrol_word (NotEnrolled refusal) = refused_word refusal
+abbrev pub positions_word : Result Listed Refusal → ℕ
+positions_word = word_by (λ listed. packed 0 0 listed.count listed.hashes)
 
-abbrev pub offer_word : OfferAnswer → ℕ
-offer_word (Credited ticks) = packed 0 1 ticks 0
-offer_word (NoCredit refusal) = refused_word refusal
+abbrev pub enrol_word : Result (Unit {0}) Refusal → ℕ
+enrol_word = done_word
 
-abbrev pub settle_word : SettleAnswer → ℕ
-settle_word Yes = packed 0 1 0 0
-settle_word No = packed 0 0 0 0
-settle_word (NoVerdict refusal) = refused_word refusal
+abbrev pub offer_word : Result ℕ Refusal → ℕ
+offer_word = word_by (λ ticks. packed 0 1 ticks 0)
+
+abbrev pub settled_word : Bool → ℕ
+settled_word true = packed 0 1 0 0
+settled_word false = packed 0 0 0 0
+
+abbrev pub settle_word : Result Bool Refusal → ℕ
+settle_word = word_by settled_word
 
 -- ---- what an exported call promises: some answer keeps the promise of the call itself, and the word is that answer's
 

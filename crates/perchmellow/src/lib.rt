@@ -11,86 +11,62 @@ ghost use Rattle.perchmellow.specs.Fits.{Fits, RoundFits, PositionsFit, OfferFit
 ghost use Rattle.perchmellow.specs.Word.{packed as packed_of, refused_word, Exported};
 ghost use Rattle.perchmellow.specs.Word.{done_word, round_word, positions_word, enrol_word, offer_word, settle_word};
 
-use card::{Answer, RoundAnswer};
-use pebbling::PositionsAnswer;
-use post::{OfferAnswer, SettleAnswer};
+use card::Outcome;
+use pebbling::Listed;
 use refusals::Refusal;
 
 // ---- answers as words
 
+// The kind is a number here, since C reads it out of the word as one.
 fn packed(kind: u64, first: u32, second: u32) -> u64
     requires kind_bound { kind ≤ 1 }
     requires fits { Fits first second }
     ensures { result ≡ packed_of 0 kind first second }
 {
-    let a = first as u64;
-    let b = second as u64;
-    kind * 256 + a * 65536 + b * 1099511627776
+    (kind << 8) | (u64::from(first) << 16) | (u64::from(second) << 40)
 }
 
 fn refused(why: Refusal) -> u64
     ensures { result ≡ refused_word why }
 {
-    refusals::number(why) as u64
+    u64::from(refusals::number(why))
 }
 
-fn done_word(answer: Answer) -> u64
+// Start, rebuild, anchor and enrol have nothing to say but that they are done.
+fn done_word(answer: Result<(), Refusal>) -> u64
     ensures { result ≡ done_word answer }
 {
-    match answer {
-        Answer::Done => 0,
-        Answer::Refused(why) => refused(why),
-    }
+    answer.map_or_else(refused, |_| 0)
 }
 
-fn round_word(answer: RoundAnswer) -> u64
+fn round_word(answer: Result<Outcome, Refusal>) -> u64
     requires { RoundFits answer }
     ensures { result ≡ round_word answer }
 {
-    match answer {
-        RoundAnswer::Quiet { hashes } => packed(0, 0, hashes),
-        RoundAnswer::Tick { position, hashes } => packed(1, position, hashes),
-        RoundAnswer::Refused(why) => refused(why),
-    }
+    answer.map_or_else(refused, |outcome| match outcome {
+        Outcome::Quiet { hashes } => packed(0, 0, hashes),
+        Outcome::Tick { position, hashes } => packed(1, position, hashes),
+    })
 }
 
-fn positions_word(answer: PositionsAnswer) -> u64
+fn positions_word(answer: Result<Listed, Refusal>) -> u64
     requires { PositionsFit answer }
     ensures { result ≡ positions_word answer }
 {
-    match answer {
-        PositionsAnswer::Listed { count, hashes } => packed(0, count, hashes),
-        PositionsAnswer::Refused(why) => refused(why),
-    }
+    answer.map_or_else(refused, |listed| packed(0, listed.count, listed.hashes))
 }
 
-fn enrol_word(answer: post::Answer) -> u64
-    ensures { result ≡ enrol_word answer }
-{
-    match answer {
-        post::Answer::Done => 0,
-        post::Answer::Refused(why) => refused(why),
-    }
-}
-
-fn offer_word(answer: OfferAnswer) -> u64
+fn offer_word(answer: Result<u32, Refusal>) -> u64
     requires { OfferFits answer }
     ensures { result ≡ offer_word answer }
 {
-    match answer {
-        OfferAnswer::Credited(ticks) => packed(1, ticks, 0),
-        OfferAnswer::Refused(why) => refused(why),
-    }
+    answer.map_or_else(refused, |ticks| packed(1, ticks, 0))
 }
 
-fn settle_word(answer: SettleAnswer) -> u64
+fn settle_word(answer: Result<bool, Refusal>) -> u64
     ensures { result ≡ settle_word answer }
 {
-    match answer {
-        SettleAnswer::Yes => 256,
-        SettleAnswer::No => 0,
-        SettleAnswer::Refused(why) => refused(why),
-    }
+    answer.map_or_else(refused, |yes| if yes { 256 } else { 0 })
 }
 
 // ---- the calls
@@ -99,8 +75,7 @@ fn settle_word(answer: SettleAnswer) -> u64
 pub fn perchmellow_start(function: u32, k: u32, schedule: u32, seed: &[u8], card: &mut [u8]) -> u64
     ensures { Exported done_word (λ a. Started function k schedule seed.now card.old a card.new) result }
 {
-    let answer = card::start(function, k, schedule, seed, card);
-    done_word(answer)
+    done_word(card::start(function, k, schedule, seed, card))
 }
 
 // card::rebuild, for C and Rust.
@@ -114,8 +89,7 @@ pub fn perchmellow_rebuild(
 ) -> u64
     ensures { Exported done_word (λ a. Rebuilt function k schedule round seed.now card.old a card.new) result }
 {
-    let answer = card::rebuild(function, k, schedule, round, seed, card);
-    done_word(answer)
+    done_word(card::rebuild(function, k, schedule, round, seed, card))
 }
 
 // card::start_ticks, for C and Rust.
@@ -128,62 +102,54 @@ pub fn perchmellow_start_ticks(
 ) -> u64
     ensures { Exported done_word (λ a. StartedTicks function ticks schedule seed.now card.old a card.new) result }
 {
-    let answer = card::start_ticks(function, ticks, schedule, seed, card);
-    done_word(answer)
+    done_word(card::start_ticks(function, ticks, schedule, seed, card))
 }
 
 // card::round, for C and Rust.
 pub fn perchmellow_round(card: &mut [u8], out: &mut [u8]) -> u64
     ensures { Exported round_word (λ a. Rounded card.old out.old a card.new out.new) result }
 {
-    let answer = card::round(card, out);
-    round_word(answer)
+    round_word(card::round(card, out))
 }
 
 // pebbling::positions, for C and Rust.
 pub fn perchmellow_positions(k: u32, schedule: u32, round: u32, list: &mut [u32]) -> u64
     ensures { Exported positions_word (λ a. Positioned k schedule round list.old a list.new) result }
 {
-    let answer = pebbling::positions(k, schedule, round, list);
-    positions_word(answer)
+    positions_word(pebbling::positions(k, schedule, round, list))
 }
 
 // card::anchor, for C and Rust.
 pub fn perchmellow_anchor(function: u32, k: u32, seed: &[u8], out: &mut [u8]) -> u64
     ensures { Exported done_word (λ a. Anchored (record { function = function }) k seed.now out.old a out.new) result }
 {
-    let answer = card::anchor(function, k, seed, out);
-    done_word(answer)
+    done_word(card::anchor(function, k, seed, out))
 }
 
 // card::anchor_ticks, for C and Rust.
 pub fn perchmellow_anchor_ticks(function: u32, ticks: u32, seed: &[u8], out: &mut [u8]) -> u64
     ensures { Exported done_word (λ a. AnchoredTicks (record { function = function }) ticks seed.now out.old a out.new) result }
 {
-    let answer = card::anchor_ticks(function, ticks, seed, out);
-    done_word(answer)
+    done_word(card::anchor_ticks(function, ticks, seed, out))
 }
 
 // post::enrol, for C and Rust.
 pub fn perchmellow_enrol(function: u32, k: u32, anchor: &[u8], post: &mut [u8]) -> u64
     ensures { Exported enrol_word (λ a. Enrolled function k anchor.now post.old a post.new) result }
 {
-    let answer = post::enrol(function, k, anchor, post);
-    enrol_word(answer)
+    done_word(post::enrol(function, k, anchor, post))
 }
 
 // post::offer, for C and Rust.
 pub fn perchmellow_offer(post: &mut [u8], value: &[u8], gap: u32) -> u64
     ensures { Exported offer_word (λ a. Offered post.old value.now gap a post.new) result }
 {
-    let answer = post::offer(post, value, gap);
-    offer_word(answer)
+    offer_word(post::offer(post, value, gap))
 }
 
 // post::settle, for C and Rust.
 pub fn perchmellow_settle(function: u32, k: u32, anchor: &[u8], last: &[u8], paid: u32) -> u64
     ensures { Exported settle_word (Settled function k anchor.now last.now paid) result }
 {
-    let answer = post::settle(function, k, anchor, last, paid);
-    settle_word(answer)
+    settle_word(post::settle(function, k, anchor, last, paid))
 }

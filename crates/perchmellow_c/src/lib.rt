@@ -1,4 +1,5 @@
 // The library for C and Rust: each call of `perchmellow`, exported under its own name. include/perchmellow.h declares them.
+// C asks for these arguments and words, and each clause stands here again since an export promises what its own clause says.
 #![tactic(auto)]
 
 ghost use Rattle.card.specs.Promises.{Started, Rebuilt, StartedTicks, Rounded, Anchored, AnchoredTicks};

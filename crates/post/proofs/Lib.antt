@@ -1,6 +1,3 @@
 pub mod StepLaws
-pub mod ReadLaws
-pub mod EnrolLaws
+pub mod WriteLaws
 pub mod OfferLaws
-pub mod SettleLaws
-pub mod StepRoom

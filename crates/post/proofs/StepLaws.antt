@@ -1,82 +1,66 @@
--- What the code that goes along a chain comes to, over plain lists and numbers. Assumes nothing.
-use mathlib.Core.Path.{◌≡◌, refl, sym, ◌∙◌}
+-- What the search along a chain comes to, over plain lists and numbers. Assumes nothing.
+use mathlib.Core.Path.{◌≡◌, refl, sym, ap, ◌∙◌}
 use mathlib.Core.Bool.{Bool, true, false, cond}
 use mathlib.Core.List.{List}
-use Prim.Native.Nat.{ℕ, ◌+◌, ◌≤◌, ◌<◌}
-use native.Mathlib.Numerals.{add-one}
+use Rattle.std.proofs.Math.Logic.{⊎_elim}
+use Prim.Native.Nat.{ℕ, zero, suc, ◌+◌, ◌≤◌, ◌<◌}
 use native.Mathlib.Omega.{arith}
-use lib.ListN.{length}
 use Rattle.lists.specs.Same.{same}
-use Rattle.records.proofs.Laws.{Walking, walking_none, walking_next}
-use Rattle.oneway.specs.Step.{width, step}
+use Rattle.oneway.specs.Step.{step}
 use Rattle.oneway.specs.declared.Chain.{Chain}
+use Rattle.pebbling.specs.Len.{lt_or_le}
 use Rattle.pebbling.specs.Recursion.{chain}
-use Rattle.post.specs.declared.Found.{Found}
-use Rattle.post.specs.declared.Found.TheVariants.{At, Nothing}
+use Rattle.std.specs.Prelude.{None, Some}
 use Rattle.post.specs.Search.{least, fewest}
-use Rattle.post.specs.Fewest.{least_found, least_kept}
+use Rattle.post.specs.Fewest.{least_kept}
 
--- ---- search: the least of those looked at is found, and finding one ends the search
-
-abbrev pub fits : Chain → List ℕ → List ℕ → ℕ → Bool
+abbrev fits : Chain → List ℕ → List ℕ → ℕ → Bool
 fits c held value g = same (chain (step c) value g) held
 
--- where the search ends
-abbrev pub stop : ℕ → Found → ℕ
-stop limit (At g) = g
-stop limit Nothing = limit
+-- before the search looks at g: the value has been stepped on g - 1 times, and none that it has looked at fits
+pub record Searching (c : Chain) (held value : List ℕ) (g : ℕ) (stepped : List ℕ) : Type 0 where
+  pub holds : (n : ℕ) → suc n ≡ g → stepped ≡ chain (step c) value n
+  pub none : (n : ℕ) → n < g → least n (fits c held value) ≡ None
 
-pub record Searching (c : Chain) (limit : ℕ) (held value : List ℕ) (found : Found) (end g : ℕ) (stepped : List ℕ) : Type 0 where
-  pub walks : Walking c value stepped g
-  pub finds : found ≡ least g (fits c held value)
-  pub ends : end ≡ stop limit found
-  pub within : g ≤ end
-  pub upto : end ≤ limit
+module _ (c : Chain) (held value : List ℕ) where
+  pub search_begins : Searching c held value 1 value
+  unfolding chain least
+  search_begins =
+      record {
+        holds = λ n q. let z : n ≡ 0 = omega arith in rw z refl;
+        none = λ n q. let z : n ≡ 0 = omega arith in rw z refl;
+      }
 
-module _ (c : Chain) (limit : ℕ) (held value : List ℕ) where
-  pub searching_none : length value ≡ width c → Searching c limit held value Nothing limit 0 value
-  unfolding least
-  searching_none e = record { walks = walking_none c value e; finds = refl; ends = refl; within = omega arith; upto = omega arith }
-
-  module _ (found : Found) (end g : ℕ) (stepped : List ℕ) (s : Searching c limit held value found end g stepped) where
-    -- while the search goes on, nothing has been found
-    open_still : g < end → (found ≡ Nothing) × (end ≡ limit)
-    open_still l = go found s.finds s.ends
-      where
-        go : (x : Found) → x ≡ least g (fits c held value) → end ≡ stop limit x → (x ≡ Nothing) × (end ≡ limit)
-        go Nothing f e = (refl, e)
-        go (At h) f e = absurd (omega (arith, (least_found (fits c held value) g h (sym f)).upto, e))
+  module _ (g : ℕ) (stepped : List ℕ) (s : Searching c held value g stepped) where
+    pub search_ends : (limit : ℕ) → limit < g → None ≡ fewest (step c) limit held value
+    unfolding fewest
+    search_ends limit l = sym (s.none limit l)
 
     -- one step more
-    module _ (l : g < end) (stepped' : List ℕ) (one : stepped' ≡ chain (step c) stepped 1) where
-      pub step_walks : Walking c value stepped' (g + 1)
+    module _ (from : 0 < g) (stepped' : List ℕ) (one : stepped' ≡ chain (step c) stepped 1) where
+      walked : (n : ℕ) → n ≡ g → stepped' ≡ chain (step c) value n
       unfolding chain
-      step_walks = walking_next c value stepped stepped' g s.walks one
+      walked zero q = absurd (omega arith)
+      walked (suc n) q = one ∙ ap (step c) (s.holds n q)
 
-      more : least (g + 1) (fits c held value) ≡ cond (same stepped' held) (At (g + 1)) Nothing
+      looked : (n : ℕ) → n ≡ g → least n (fits c held value) ≡ cond (same stepped' held) (Some n) None
       unfolding least
-      more =
-          rw (add-one g, sym s.finds ∙ (open_still l).0)
-          (rw (← add-one g, ← step_walks.holds) refl)
+      looked zero q = absurd (omega arith)
+      looked (suc n) q = rw (s.none n (omega arith), ← walked (suc n) q) refl
 
-      pub search_fits : same stepped' held ≡ true → Searching c limit held value (At (g + 1)) (g + 1) (g + 1) stepped'
-      search_fits t =
-          record { walks = step_walks; finds = sym (more ∙ rw t refl); ends = refl; within = omega arith; upto = omega (arith, (open_still l).1) }
+      pub search_fits : (limit : ℕ) → g ≤ limit → same stepped' held ≡ true → Some g ≡ fewest (step c) limit held value
+      unfolding fewest
+      search_fits limit l t = sym (least_kept (fits c held value) g limit g l (looked g refl ∙ rw t refl))
 
-      pub search_on : same stepped' held ≡ false → Searching c limit held value found end (g + 1) stepped'
+      pub search_on : same stepped' held ≡ false → Searching c held value (g + 1) stepped'
       search_on f =
           record {
-            walks = step_walks;
-            finds = (open_still l).0 ∙ sym (more ∙ rw f refl);
-            ends = s.ends;
-            within = omega arith;
-            upto = s.upto;
+            holds = λ n q. walked n (omega arith);
+            none = λ n l. ⊎_elim (λ b. s.none n b) (λ b. looked n (omega arith) ∙ rw f refl) (lt_or_le n g);
           }
 
-    pub searched : end ≤ g → found ≡ fewest (step c) limit held value
-    unfolding fewest
-    searched l = go found s.finds s.ends
-      where
-        go : (x : Found) → x ≡ least g (fits c held value) → end ≡ stop limit x → x ≡ least limit (fits c held value)
-        go Nothing f e = let q : g ≡ limit = omega (arith, s.within, e) in rw (← q) f
-        go (At h) f e = sym (least_kept (fits c held value) g limit h (omega (arith, s.within, s.upto)) (sym f))
+      pub search_last : (limit : ℕ) → limit ≤ g → same stepped' held ≡ false → None ≡ fewest (step c) limit held value
+      unfolding fewest
+      search_last limit l f = sym ((search_on f).none limit (omega arith))
+
+pub ruleset searching = (search_begins, search_on, search_fits, search_ends, search_last)

@@ -15,10 +15,7 @@ use Rattle.refusals.specs.Numbers.{said_of, not_refused}
 use Rattle.refusals.specs.declared.Refusal.{Refusal}
 use Rattle.refusals.specs.declared.Refusal.TheVariants.{WrongLength, Spent, BadGap, NotTaken}
 use Rattle.post.specs.declared.Head.{Head}
-use Rattle.post.specs.declared.Found.{Found}
-use Rattle.post.specs.declared.Found.TheVariants.{At, Nothing}
-use Rattle.post.specs.declared.Inspected.{Inspected}
-use Rattle.post.specs.declared.Inspected.TheVariants.{Refused, Post}
+use Rattle.std.specs.Prelude.{Err, None, Ok, Option, Result, Some}
 use Rattle.post.specs.Record.{size, chain_of, width_of, post_bytes, head_of, anchor_of, held_value}
 use Rattle.post.specs.Refused.{numbers, enrol_judged, inspect_of, gap_strange, ready, offer_judged, settle_ready, settle_judged}
 use Rattle.post.specs.Search.{fewest, least}
@@ -37,7 +34,7 @@ pub record Credit (head : Head) (post value : List ℕ) (gap g : ℕ) : Type 0 w
   pub leads : chain (step (chain_of head)) value g ≡ held_value head post
   pub none_fewer : (j : ℕ) → 0 < j → j < g → chain (step (chain_of head)) value j ≡ held_value head post → ⊥
 
-module _ (post value : List ℕ) (gap : ℕ) (head : Head) (reaches : offer_judged post value gap ≡ Post head) where
+module _ (post value : List ℕ) (gap : ℕ) (head : Head) (reaches : offer_judged post value gap ≡ Ok head) where
   abbrev x : ℕ → List ℕ
   x g = chain (step (chain_of head)) value g
 
@@ -69,15 +66,15 @@ module _ (post value : List ℕ) (gap : ℕ) (head : Head) (reaches : offer_judg
         none_fewer = λ j a b e. true≢false (sym (eq-same (x j) (held_value head post) e) ∙ f.none_fewer j a b);
       }
 
-  found_credit : (g : ℕ) → search_finds post value gap head ≡ At g → Credit head post value gap g
+  found_credit : (g : ℕ) → search_finds post value gap head ≡ Some g → Credit head post value gap g
   found_credit g q = credit_first g (least_found fits (limit_of gap head) g (sym search ∙ q))
 
-  credited_found : (g : ℕ) → offer_must_say post value gap ≡ 0 ∷ g ∷ [] → search_finds post value gap head ≡ At g
+  credited_found : (g : ℕ) → offer_must_say post value gap ≡ 0 ∷ g ∷ [] → search_finds post value gap head ≡ Some g
   credited_found g e = go (search_finds post value gap head) refl (sym says ∙ e)
     where
-      go : (seen : Found) → search_finds post value gap head ≡ seen → found_says seen ≡ 0 ∷ g ∷ [] → search_finds post value gap head ≡ At g
-      go Nothing q r = absurd (not_refused NotTaken (g ∷ []) r)
-      go (At h) q r = let d : h ≡ g = cc in q ∙ ap At d
+      go : (seen : Option ℕ) → search_finds post value gap head ≡ seen → found_says seen ≡ 0 ∷ g ∷ [] → search_finds post value gap head ≡ Some g
+      go None q r = absurd (not_refused NotTaken (g ∷ []) r)
+      go (Some h) q r = let d : h ≡ g = cc in q ∙ ap Some d
 
   -- the credit is the fewest steps that lead to the value held
   pub credit_is_fewest : (g : ℕ) → offer_must_say post value gap ≡ 0 ∷ g ∷ [] → Credit head post value gap g
@@ -100,24 +97,24 @@ module _ (post value : List ℕ) (gap : ℕ) (head : Head) (reaches : offer_judg
       → (offer_must_say post value gap ≡ said_of NotTaken) × (offer_post post value gap ≡ post)
   refused_where_none n = go (search_finds post value gap head) refl
     where
-      go : (seen : Found) → search_finds post value gap head ≡ seen → (offer_must_say post value gap ≡ said_of NotTaken) × (offer_post post value gap ≡ post)
-      go Nothing q = (says ∙ ap found_says q, leaves ∙ ap (found_post head post value) q)
-      go (At h) q =
+      go : (seen : Option ℕ) → search_finds post value gap head ≡ seen → (offer_must_say post value gap ≡ said_of NotTaken) × (offer_post post value gap ≡ post)
+      go None q = (says ∙ ap found_says q, leaves ∙ ap (found_post head post value) q)
+      go (Some h) q =
           let f = found_credit h q in
           absurd (n h f.from f.within_gap f.within_unpaid f.leads)
 
 -- a credit is said only by an offer that reaches the search, on a record whose head is the one read
-pub credit_reached : (post value : List ℕ) (gap g : ℕ) → offer_must_say post value gap ≡ 0 ∷ g ∷ [] → offer_judged post value gap ≡ Post (head_of post)
+pub credit_reached : (post value : List ℕ) (gap g : ℕ) → offer_must_say post value gap ≡ 0 ∷ g ∷ [] → offer_judged post value gap ≡ Ok (head_of post)
 unfolding offer_must_say
 credit_reached post value gap g e = go (offer_judged post value gap) refl e
   where
-    go : (seen : Inspected) → offer_judged post value gap ≡ seen → judged_offer_says post value gap seen ≡ 0 ∷ g ∷ [] → offer_judged post value gap ≡ Post (head_of post)
-    go (Refused r) q s = absurd (not_refused r (g ∷ []) s)
-    go (Post h) q s = q ∙ ap Post (sym (sound post h (searchable post value gap h q).0).0)
+    go : (seen : Result Head Refusal) → offer_judged post value gap ≡ seen → judged_offer_says post value gap seen ≡ 0 ∷ g ∷ [] → offer_judged post value gap ≡ Ok (head_of post)
+    go (Err r) q s = absurd (not_refused r (g ∷ []) s)
+    go (Ok h) q s = q ∙ ap Ok (sym (sound post h (searchable post value gap h q).0).0)
 
 -- ---- 6 is said where 2^k are paid, and nowhere else
 
-module _ (post value : List ℕ) (gap : ℕ) (head : Head) (formed : inspect_of post ≡ Post head) where
+module _ (post value : List ℕ) (gap : ℕ) (head : Head) (formed : inspect_of post ≡ Ok head) where
   -- with a gap limit from 1 to 64, whatever is offered
   pub spent_says_6 : gap_strange gap ≡ false → head.paid ≡ 2 ^ head.k → offer_must_say post value gap ≡ said_of Spent
   unfolding offer_must_say offer_judged ready
@@ -129,11 +126,11 @@ module _ (post value : List ℕ) (gap : ℕ) (head : Head) (formed : inspect_of 
   unspent_never_says_6 some e =
       go (gap_strange gap) (not (eqb (length value) (width_of head))) (rw (formed, ne_eqb head.paid (2 ^ head.k) some) at e)
     where
-      found : (seen : Found) → found_says seen ≡ said_of Spent → ⊥
-      found (At g) q = not_refused Spent (g ∷ []) (sym q)
-      found Nothing q = let z : ◌≡◌ {A = ℕ} 9 6 = cc in omega arith
+      found : (seen : Option ℕ) → found_says seen ≡ said_of Spent → ⊥
+      found (Some g) q = not_refused Spent (g ∷ []) (sym q)
+      found None q = let z : ◌≡◌ {A = ℕ} 9 6 = cc in omega arith
 
-      go : (strange wrong : Bool) → judged_offer_says post value gap (cond strange (Refused BadGap) (cond wrong (Refused WrongLength) (Post head))) ≡ said_of Spent → ⊥
+      go : (strange wrong : Bool) → judged_offer_says post value gap (cond strange (Err BadGap) (cond wrong (Err WrongLength) (Ok head))) ≡ said_of Spent → ⊥
       go true wrong q = let z : ◌≡◌ {A = ℕ} 7 6 = cc in omega arith
       go false true q = let z : ◌≡◌ {A = ℕ} 4 6 = cc in omega arith
       go false false q = found (search_finds post value gap head) q
@@ -144,13 +141,13 @@ pub refused_leaves : (post value : List ℕ) (gap : ℕ) (refusal : Refusal) →
 unfolding offer_must_say offer_post
 refused_leaves post value gap refusal e = go (offer_judged post value gap) e
   where
-    found : (head : Head) (seen : Found) → found_says seen ≡ said_of refusal → found_post head post value seen ≡ post
-    found head Nothing s = refl
-    found head (At g) s = absurd (not_refused refusal (g ∷ []) (sym s))
+    found : (head : Head) (seen : Option ℕ) → found_says seen ≡ said_of refusal → found_post head post value seen ≡ post
+    found head None s = refl
+    found head (Some g) s = absurd (not_refused refusal (g ∷ []) (sym s))
 
-    go : (seen : Inspected) → judged_offer_says post value gap seen ≡ said_of refusal → judged_offer_post post value gap seen ≡ post
-    go (Refused r) s = refl
-    go (Post h) s = found h (search_finds post value gap h) s
+    go : (seen : Result Head Refusal) → judged_offer_says post value gap seen ≡ said_of refusal → judged_offer_post post value gap seen ≡ post
+    go (Err r) s = refl
+    go (Ok h) s = found h (search_finds post value gap h) s
 
 -- ---- the fields of a record have the chain's width
 
@@ -168,7 +165,7 @@ held_width head post l =
 -- ---- a record after a credit
 
 -- what a credit writes is as docs/RULES.md lays it out, with g more paid and no more than 2^k
-module _ (post value : List ℕ) (gap : ℕ) (head : Head) (reaches : offer_judged post value gap ≡ Post head) (g : ℕ) (credit : Credit head post value gap g) where
+module _ (post value : List ℕ) (gap : ℕ) (head : Head) (reaches : offer_judged post value gap ≡ Ok head) (g : ℕ) (credit : Credit head post value gap g) where
   asked : Searchable post value head
   asked = (searchable post value gap head reaches).1
 
@@ -184,7 +181,7 @@ module _ (post value : List ℕ) (gap : ℕ) (head : Head) (reaches : offer_judg
         long = asked.sound.long;
       }
 
-  pub credit_passes : inspect_of (over (post_bytes (credited g head) (anchor_of head post) value) post) ≡ Post (credited g head)
+  pub credit_passes : inspect_of (over (post_bytes (credited g head) (anchor_of head post) value) post) ≡ Ok (credited g head)
   credit_passes =
       written_passes (credited g head) (anchor_of head post) value post credit_writable credit_numbered credit.within_unpaid
       (λ z. absurd (omega (arith, credit.from)))
@@ -206,15 +203,15 @@ paid_adds_up post value gap g e =
 
 -- a record as docs/RULES.md lays it out, in which as many steps as are paid lead from the value held to the anchor
 pub record Right (post : List ℕ) : Type 0 where
-  pub formed : inspect_of post ≡ Post (head_of post)
+  pub formed : inspect_of post ≡ Ok (head_of post)
   pub holds : chain (step (chain_of (head_of post))) (held_value (head_of post) post) (head_of post).paid ≡ anchor_of (head_of post) post
 
-module _ (head : Head) (anchor held post : List ℕ) (w : Writable head anchor held post) (passes : inspect_of (over (post_bytes head anchor held) post) ≡ Post head) where
+module _ (head : Head) (anchor held post : List ℕ) (w : Writable head anchor held post) (passes : inspect_of (over (post_bytes head anchor held) post) ≡ Ok head) where
   right_written : chain (step (chain_of head)) held head.paid ≡ anchor → Right (over (post_bytes head anchor held) post)
   right_written e =
       let h = written_head head anchor held post w in
       record {
-        formed = passes ∙ ap Post (sym h);
+        formed = passes ∙ ap Ok (sym h);
         holds = rw (h, written_held head anchor held post w, written_anchor head anchor held post w) e;
       }
 
@@ -228,10 +225,10 @@ module _ (function k : ℕ) (anchor post : List ℕ) where
   unfolding enrol_must_say enrol_post
   enrol_done e = go (enrol_judged (unpaid function k) anchor post) refl e
     where
-      go : (seen : Inspected) → enrol_judged (unpaid function k) anchor post ≡ seen → judged_enrol_says seen ≡ 0 ∷ []
+      go : (seen : Result Head Refusal) → enrol_judged (unpaid function k) anchor post ≡ seen → judged_enrol_says seen ≡ 0 ∷ []
           → Enrollable anchor post (unpaid function k) × (judged_enrol_post anchor post seen ≡ begun)
-      go (Refused r) q s = absurd (not_refused r [] s)
-      go (Post h) q s =
+      go (Err r) q s = absurd (not_refused r [] s)
+      go (Ok h) q s =
           let d = enrollable (unpaid function k) anchor post h q in
           (rw d.0 d.1, ap (λ (u : Head). over (post_bytes u anchor anchor) post) (sym d.0))
 
@@ -239,7 +236,7 @@ module _ (function k : ℕ) (anchor post : List ℕ) where
     pub enrol_writable : Writable (unpaid function k) anchor anchor post
     enrol_writable = record { small = omega arith; anchored = ok.anchored; wide = ok.anchored; long = ok.long }
 
-    pub enrol_passes : inspect_of begun ≡ Post (unpaid function k)
+    pub enrol_passes : inspect_of begun ≡ Ok (unpaid function k)
     enrol_passes = written_passes (unpaid function k) anchor anchor post enrol_writable ok.numbered (omega arith) (λ z. refl)
 
   pub enrol_right : enrol_must_say function k anchor post ≡ 0 ∷ [] → Right (enrol_post function k anchor post)
@@ -253,9 +250,9 @@ pub offer_right : (post value : List ℕ) (gap : ℕ) → Right post → Right (
 unfolding offer_post
 offer_right post value gap r = go (offer_judged post value gap) refl
   where
-    found : (h : Head) → offer_judged post value gap ≡ Post h → (seen : Found) → search_finds post value gap h ≡ seen → Right (found_post h post value seen)
-    found h q Nothing f = r
-    found h q (At g) f =
+    found : (h : Head) → offer_judged post value gap ≡ Ok h → (seen : Option ℕ) → search_finds post value gap h ≡ seen → Right (found_post h post value seen)
+    found h q None f = r
+    found h q (Some g) f =
         let c = found_credit post value gap h q g f in
         let same : head_of post ≡ h = (sound post h (searchable post value gap h q).0).0 in
         let held : chain (step (chain_of h)) (held_value h post) h.paid ≡ anchor_of h post = rw same at r.holds in
@@ -264,9 +261,9 @@ offer_right post value gap r = go (offer_judged post value gap) refl
         rw sum (chain_add (step (chain_of h)) value g h.paid ∙ rw c.leads held) in
         right_written (credited g h) (anchor_of h post) value post (credit_writable post value gap h q g c) (credit_passes post value gap h q g c) e
 
-    go : (seen : Inspected) → offer_judged post value gap ≡ seen → Right (judged_offer_post post value gap seen)
-    go (Refused x) q = r
-    go (Post h) q = found h q (search_finds post value gap h) refl
+    go : (seen : Result Head Refusal) → offer_judged post value gap ≡ seen → Right (judged_offer_post post value gap seen)
+    go (Err x) q = r
+    go (Ok h) q = found h q (search_finds post value gap h) refl
 
 -- ---- settle says yes exactly when f applied as often as is paid to the last value gives the anchor
 
@@ -277,7 +274,7 @@ module _ (function k : ℕ) (anchor last : List ℕ) (paid : ℕ) where
   abbrev reached : List ℕ
   reached = chain (step (chain_of account)) last paid
 
-  module _ (passes : settle_judged account anchor last ≡ Post account) where
+  module _ (passes : settle_judged account anchor last ≡ Ok account) where
     verdict_said : settle_must_say function k anchor last paid ≡ verdict (same reached anchor)
     unfolding settle_must_say arrives_of
     verdict_said = rw passes refl
@@ -294,7 +291,7 @@ module _ (function k : ℕ) (anchor last : List ℕ) (paid : ℕ) where
 
   -- it refuses nothing where the numbers and lengths are in range
   pub settle_passes : Numbered account → length anchor ≡ width_of account → length last ≡ width_of account → paid ≤ 2 ^ k
-      → settle_judged account anchor last ≡ Post account
+      → settle_judged account anchor last ≡ Ok account
   unfolding settle_judged settle_ready numbers
   settle_passes n a l h =
       rw (n.known, le-ltb 20 k n.small, eq-eqb (length anchor) (width_of account) a, eq-eqb (length last) (width_of account) l, le-ltb (2 ^ k) paid h) refl

@@ -4,16 +4,16 @@ use Rattle.lists.specs.Same.{same}
 use Rattle.records.specs.Numbers.{number}
 use Rattle.pebbling.specs.Recursion.{chain}
 use Rattle.post.specs.declared.Head.{Head}
-use Rattle.post.specs.declared.Found.TheVariants.{At, Nothing}
+use Rattle.std.specs.Prelude.{None, Some}
 use Rattle.post.specs.Record.{head_bytes, post_bytes, head_of, marked}
 use Rattle.post.specs.Search.{least, fewest}
 
 -- the first counts, and 0 is never tried
-first_counts : least 5 (λ (g : ℕ). eqb g 0 || (eqb g 3 || eqb g 5)) ≡ At 3
+first_counts : least 5 (λ (g : ℕ). eqb g 0 || (eqb g 3 || eqb g 5)) ≡ Some 3
 unfolding least
 first_counts = refl
 
-none_fits : least 5 (λ (g : ℕ). eqb g 0 || eqb g 6) ≡ Nothing
+none_fits : least 5 (λ (g : ℕ). eqb g 0 || eqb g 6) ≡ None
 unfolding least
 none_fits = refl
 
@@ -21,15 +21,15 @@ none_fits = refl
 add_one : List ℕ → List ℕ
 add_one value = suc (get_or value 0 0) ∷ []
 
-two_steps : fewest add_one 64 (7 ∷ []) (5 ∷ []) ≡ At 2
+two_steps : fewest add_one 64 (7 ∷ []) (5 ∷ []) ≡ Some 2
 unfolding fewest least same chain add_one
 two_steps = refl
 
-held_again : fewest add_one 64 (7 ∷ []) (7 ∷ []) ≡ Nothing
+held_again : fewest add_one 64 (7 ∷ []) (7 ∷ []) ≡ None
 unfolding fewest least same chain add_one
 held_again = refl
 
-too_far : fewest add_one 1 (7 ∷ []) (5 ∷ []) ≡ Nothing
+too_far : fewest add_one 1 (7 ∷ []) (5 ∷ []) ≡ None
 unfolding fewest least same chain add_one
 too_far = refl
 

@@ -12,7 +12,7 @@ use Rattle.records.specs.Numbers.{number_read}
 use Rattle.lists.specs.Writing.{over, over_length}
 use Rattle.oneway.specs.Laws.{width_small}
 use Rattle.post.specs.declared.Head.{Head}
-use Rattle.post.specs.declared.Inspected.TheVariants.{Post}
+use Rattle.std.specs.Prelude.{Ok}
 use Rattle.post.specs.Record.{size, chain_of, width_of, head_bytes, post_bytes, marked, head_of, anchor_of, held_value}
 use Rattle.post.specs.Refused.{numbers, inspect_paid, inspect_of}
 use Rattle.post.specs.Sound.{Numbered}
@@ -67,11 +67,11 @@ module _ (head : Head) (anchor held post : List ℕ) (w : Writable head anchor h
 
   -- it passes inspection
   module _ (n : Numbered head) (within : head.paid ≤ 2 ^ head.k) (begins : head.paid ≡ 0 → held ≡ anchor) where
-    numbers_pass : numbers head ≡ Post head
+    numbers_pass : numbers head ≡ Ok head
     unfolding numbers
     numbers_pass = rw (n.known, le-ltb 20 head.k n.small) refl
 
-    paid_pass : inspect_paid written head ≡ Post head
+    paid_pass : inspect_paid written head ≡ Ok head
     unfolding inspect_paid
     paid_pass =
         rw (le-ltb (2 ^ head.k) head.paid within, written_held, written_anchor)
@@ -80,7 +80,7 @@ module _ (head : Head) (anchor held post : List ℕ) (w : Writable head anchor h
         (λ z. rw (ne_eqb head.paid 0 (λ e. omega arith)) refl)
         (eq-zero-or-pos head.paid))
 
-    pub written_passes : inspect_of written ≡ Post head
+    pub written_passes : inspect_of written ≡ Ok head
     unfolding inspect_of
     written_passes =
         rw (le-ltb (length written) size (omega (arith, written_length, w.long)), written_marked, written_head, numbers_pass) paid_pass

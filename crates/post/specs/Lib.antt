@@ -9,3 +9,4 @@ pub mod Kept
 pub mod Steps
 pub mod Demands
 pub mod Ride
+pub mod Judged

@@ -15,7 +15,7 @@ use Rattle.pebbling.specs.Recursion.{chain}
 use Rattle.refusals.specs.Numbers.{said_of}
 use Rattle.refusals.specs.declared.Refusal.TheVariants.{Spent, NotTaken}
 use Rattle.post.specs.declared.Head.{Head}
-use Rattle.post.specs.declared.Inspected.TheVariants.{Post}
+use Rattle.std.specs.Prelude.{Ok}
 use Rattle.post.specs.Record.{size, head_of, anchor_of, held_value}
 use Rattle.post.specs.Refused.{numbers, room_for, enrol_judged, inspect_of, gap_strange, ready, offer_judged}
 use Rattle.post.specs.Sound.{sound}
@@ -44,7 +44,7 @@ module _ (c : Chain) (k n : ℕ) (seed : List ℕ) where
   -- a post of this chain that holds x_i, with all ticks above x_i paid
   record Standing (post : List ℕ) (paid i : ℕ) : Type 0 where
     whole : paid + i ≡ n
-    formed : inspect_of post ≡ Post (head_at c k paid)
+    formed : inspect_of post ≡ Ok (head_at c k paid)
     anchored : anchor_of (head_at c k paid) post ≡ x n
     holds : held_value (head_at c k paid) post ≡ x i
 
@@ -54,14 +54,14 @@ module _ (c : Chain) (k n : ℕ) (seed : List ℕ) where
 
   module _ (wide : length seed ≡ width c) (counted : n ≤ 2 ^ k) where
     -- a value of the chain is refused nothing before the search, while ticks are unpaid
-    judged : (post : List ℕ) (paid i j gap : ℕ) → Standing post paid i → 0 < i → Allowed gap → offer_judged post (x j) gap ≡ Post (head_at c k paid)
+    judged : (post : List ℕ) (paid i j gap : ℕ) → Standing post paid i → 0 < i → Allowed gap → offer_judged post (x j) gap ≡ Ok (head_at c k paid)
     unfolding offer_judged ready
     judged post paid i j gap s p a =
         let q : paid ≡ 2 ^ k → ⊥ = λ e. omega (arith, s.whole) in
         rw (s.formed, gap_fine gap a, ne_eqb paid (2 ^ k) q, eq-eqb (length (x j)) (width c) (chain_length c seed wide j)) refl
 
     module _ (post : List ℕ) (paid i d gap : ℕ) (s : Standing post paid (i + d)) (p : 0 < d) (a : Allowed gap) where
-      reaches : offer_judged post (x i) gap ≡ Post (head_at c k paid)
+      reaches : offer_judged post (x i) gap ≡ Ok (head_at c k paid)
       reaches = judged post paid (i + d) i gap s (omega arith) a
 
       -- with d - 1 ticks missed, d at most G, the next tick is taken, and the credit is at most d

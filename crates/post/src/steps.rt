@@ -6,7 +6,6 @@ ghost use Rattle.pebbling.specs.Recursion.{chain as element};
 ghost use Rattle.post.specs.Search.{fewest};
 ghost use Rattle.lists.specs.Same.{same as same_as};
 
-use super::Found;
 use oneway::Chain;
 use records::{same, walk};
 
@@ -22,21 +21,17 @@ pub fn leads(chain: Chain, n: u32, to: &[u8], value: &mut [u8]) -> bool
 
 // The fewest steps from 1 to `limit` that lead from the value to the one held. It steps the value in place and looks after each step;
 // the first that fits ends the search, since a chain may come by the same value again.
-pub fn search(chain: Chain, limit: u32, held: &[u8], value: &mut [u8]) -> Found
+#[tactic(auto, using(crate::proofs::StepLaws::searching))]
+pub fn search(chain: Chain, limit: u32, held: &[u8], value: &mut [u8]) -> Option<u32>
     requires known_function { T (known chain.function) }
     requires whole_value { length value.old ≡ width chain }
     ensures { result ≡ fewest (step chain) limit held.now value.old }
 {
-    let mut found = Found::Nothing;
-    let mut end = limit;
-    let mut g: u32 = 0;
-    while g < end {
+    for g in 1..=limit {
         walk(chain, 1, value);
-        g += 1;
         if same(value, held) {
-            found = Found::At(g);
-            end = g;
+            return Some(g);
         }
     }
-    found
+    None
 }

@@ -2,7 +2,7 @@
 -- rounds leave; so what is demanded of a started card (crates/card/specs/Demands.antt) holds of a rebuilt one from its round on: for
 -- every known function, every k up to 20, every schedule, every seed of the function's width, every round from 1 to 2^(k+1), and
 -- whatever record and out buffers are lent. Assumes nothing.
-use Rattle.std.specs.Prelude.{◌≡◌, length}
+use Rattle.std.specs.Prelude.{◌≡◌, Ok, length}
 use Rattle.std.proofs.Math.Path.{refl, ap}
 use Rattle.std.proofs.Common.{sym, ◌∙◌, pow_pos}
 use mathlib.Core.List.{List, [], ◌∷◌, map}
@@ -13,7 +13,6 @@ use Rattle.lists.specs.Writing.{over}
 use Rattle.oneway.specs.Step.{width, step}
 use Rattle.oneway.specs.declared.Chain.{Chain}
 use Rattle.pebbling.specs.Recursion.{schedule, positions, work, chain}
-use Rattle.card.specs.declared.Inspected.TheVariants.{Card}
 use Rattle.card.specs.Record.{head_at, slots_size, size, card_bytes}
 use Rattle.card.specs.Refused.{room_for, rebuild_judged}
 use Rattle.card.specs.Promises.{start_card, rebuild_must_say, rebuild_card, round_must_say, round_card, round_out}
@@ -32,7 +31,7 @@ module _ (function k s : ℕ) (seed lent : List ℕ) (given : Given function k s
 
   -- ---- a rebuild
 
-  rebuild_passes : (r : ℕ) → 0 < r → r ≤ 2 ^ suc k → rebuild_judged (head_at function k s r) seed lent ≡ Card (head_at function k s r)
+  rebuild_passes : (r : ℕ) → 0 < r → r ≤ 2 ^ suc k → rebuild_judged (head_at function k s r) seed lent ≡ Ok (head_at function k s r)
   unfolding room_for size slots_size
   rebuild_passes r from upto =
       rebuild_judged_lem (head_at function k s r) seed lent (record { known = given.known; small = given.small; schedule = given.scheduled }) from upto

@@ -2,7 +2,7 @@
 -- and then the card says 6. It is the card of 2^k ticks, k the least with 2^k at least n, from the round on that has n rounds left
 -- (crates/levels/specs/Levels.antt). For every known function, every schedule, every seed of the function's width, and whatever record
 -- and out buffers are lent. Assumes nothing.
-use Rattle.std.specs.Prelude.{◌≡◌, true, length}
+use Rattle.std.specs.Prelude.{◌≡◌, true, Ok, length}
 use Rattle.std.proofs.Math.Path.{refl, sym, ap}
 use Rattle.std.proofs.Common.{◌∙◌, arith}
 use mathlib.Core.List.{List, [], ◌∷◌, map}
@@ -14,8 +14,6 @@ use Rattle.lists.specs.Writing.{over}
 use Rattle.oneway.specs.Step.{known, width, step}
 use Rattle.oneway.specs.declared.Chain.{Chain}
 use Rattle.pebbling.specs.Recursion.{schedule, positions, work, chain}
-use Rattle.card.specs.declared.Answer.TheVariants.{Done}
-use Rattle.card.specs.declared.Inspected.TheVariants.{Card}
 use Rattle.card.specs.Record.{head_at, slots_size, size, card_bytes}
 use Rattle.card.specs.Refused.{room_for, start_ticks_judged, anchor_judged, anchor_ticks_judged}
 use Rattle.card.specs.Promises.{rebuild_card, start_ticks_must_say, start_ticks_card, round_must_say, round_card, round_out, anchor_out, anchor_must_say, anchor_ticks_must_say, anchor_ticks_out}
@@ -45,7 +43,7 @@ module _ (function n : ℕ) (seed : List ℕ) (is_known : known function ≡ tru
   abbrev f : Chain
   f = record { function = function }
 
-  passes : (out : List ℕ) → width f ≤ length out → anchor_ticks_judged f n seed out ≡ Done
+  passes : (out : List ℕ) → width f ≤ length out → anchor_ticks_judged f n seed out ≡ (Ok tt)
   unfolding anchor_ticks_judged
   passes out w =
       rw (is_known, allowed_holds n some few, eq-eqb (length seed) (width f) seeded, le-ltb (length out) (width f) w) refl
@@ -72,7 +70,7 @@ module _ (function n s : ℕ) (seed lent : List ℕ) (is : Sold function n s see
   given_of =
       record { known = is.known; small = level_small n is.few; scheduled = is.scheduled; seeded = is.seeded; long = is.long }
 
-  start_passes : start_ticks_judged function n s seed lent ≡ Card (head_at function k s (first_round n))
+  start_passes : start_ticks_judged function n s seed lent ≡ Ok (head_at function k s (first_round n))
   unfolding start_ticks_judged room_for size slots_size
   start_passes =
       rw (

@@ -1,7 +1,7 @@
--- What the loops and reads of records come to, over plain lists. Assumes nothing.
+-- What reading a number and walking along a chain come to, over plain lists. Assumes nothing.
 use mathlib.Core.Path.{◌≡◌, refl, sym, ap, ◌∙◌}
 use mathlib.Core.List.{List, [], ◌∷◌}
-use Prim.Native.Nat.{ℕ, ◌+◌, ◌*◌, ◌≤◌}
+use Prim.Native.Nat.{ℕ, ◌+◌, ◌*◌}
 use native.Mathlib.Numerals.{add-one}
 use native.Mathlib.Omega.{arith}
 use lib.ListN.{length, get_or}
@@ -41,6 +41,3 @@ walking_next c seed value value' i w e =
       sized = ap length e ∙ step_length c value (w.sized ∙ w.wide) ∙ sym w.wide;
       holds = rw (add-one i) (e ∙ ap (step c) w.holds);
     }
-
-pub walked : (c : Chain) (seed value : List ℕ) (i n : ℕ) → Walking c seed value i → i ≤ n → n ≤ i → value ≡ chain (step c) seed n
-walked c seed value i n w a b = let e : i ≡ n = omega arith in w.holds ∙ rw e refl

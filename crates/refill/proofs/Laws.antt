@@ -2,7 +2,7 @@
 use mathlib.Core.Path.{◌≡◌, refl, sym, ap, ◌∙◌}
 use mathlib.Core.List.{List, [], ◌∷◌, ◌++◌, append_assoc}
 use Prim.Native.Nat.{ℕ, zero, suc, ◌+◌, ◌-◌, ◌*◌, ◌≤◌, ◌<◌}
-use native.Mathlib.Nat.{mul_comm, mul-le-mul_right}
+use native.Mathlib.Nat.{mul_comm}
 use native.Mathlib.Omega.{arith}
 use lib.ListN.{length, take, drop, get_or, length-append, length-take, drop_of_length-le}
 use lib.Seq.{sets-eq, length-take-le, take-append-le, take-take, drop_at, drop-cons}
@@ -12,7 +12,7 @@ use Rattle.oneway.specs.declared.Chain.{Chain}
 use Rattle.oneway.specs.Step.{width, step}
 use Rattle.pebbling.specs.Falling.{Falling}
 use Rattle.pebbling.specs.Recursion.{chain}
-use Rattle.records.proofs.Laws.{Walking, walking_none, walking_next, walked}
+use Rattle.records.proofs.Laws.{Walking, walking_none, walking_next}
 use Rattle.records.specs.Chains.{chain_add, chain_length}
 use Rattle.refill.specs.Refill.{elements, highest, Fillable, Refilled}
 
@@ -25,10 +25,6 @@ pub climbing_next : (c : Chain) (seed value value' : List ℕ) (from at : ℕ) �
 climbing_next c seed value value' from at h w e =
     let s : at + 1 - from ≡ at - from + 1 = omega arith in
     rw s (walking_next c seed value value' (at - from) w e)
-
-pub climbed : (c : Chain) (seed value : List ℕ) (from at to : ℕ) → from ≤ at → at ≤ to → to ≤ at → Walking c seed value (at - from)
-    → (at ≡ to) × (value ≡ chain (step c) seed (to - from))
-climbed c seed value from at to h l g w = (omega arith, walked c seed value (at - from) (to - from) w (omega arith) (omega arith))
 
 -- ---- fill: the positions from i on are done
 
@@ -103,10 +99,6 @@ module _
     slot_ends : i * w ≡ (i - 1) * w + w
     slot_ends = let e : suc (i - 1) * w ≡ (i - 1) * w + w = omega arith in ap (λ (n : ℕ). n * w) (sym before) ∙ e
 
-    -- the next slot is one of those that there is room for
-    pub fill_slot : (i - 1) * w + w ≤ length slots
-    fill_slot = omega (arith, slot_ends, mul-le-mul_right w s.within, fill_end)
-
     -- the next position is not below the last
     pub fill_up : at ≤ get_or positions (i - 1) 0
     fill_up =
@@ -127,9 +119,6 @@ module _
 
       wide' : length value' ≡ w
       wide' = fill_walks.sized ∙ f.seeded ∙ sym s.wide
-
-      pub fill_room : (i - 1) * w + length value' ≤ length slots'
-      fill_room = omega (arith, wide', fill_slot, written_length _ slots slots' (i * w) (length positions * w) s.stored)
 
       -- one position more
       pub filling_next : (end : ℕ) (slots'' : List ℕ) → Written value' ((i - 1) * w) slots' end slots''

@@ -11,14 +11,14 @@ use oneway::Chain;
 
 // On along the chain from one position to another, in place. Answers the position reached. This is the only place where a rebuild
 // applies the chain's function, and the position goes up by one there and nowhere else: so it is also the count of the hashes done
-// since the seed.
+// since the seed. `records::walk` has no such count: its contract, which the cards use too, speaks of no work.
 fn climb(chain: Chain, from: u32, to: u32, value: &mut [u8]) -> u32
     requires known_function { T (known chain.function) }
     requires whole_and_upwards { (length value.old ≡ width chain) × (from ≤ to) }
     ensures { (result ≡ to) × (value.new ≡ element (step chain) value.old (to - from)) }
 {
     let mut at = from;
-    while at < to {
+    for _ in from..to {
         oneway::apply(chain, value);
         at += 1;
     }
@@ -33,9 +33,8 @@ fn fill(chain: Chain, positions: &[u32], value: &mut [u8], slots: &mut [u8]) -> 
 {
     let w = oneway::width(chain);
     let mut at: u32 = 0;
-    let mut i = positions.len();
-    while 0 < i {
-        i -= 1;
+    // An index: over `iter().enumerate().rev()` the invariant has the iterator and no i to speak of, and its proof did not close.
+    for i in (0..positions.len()).rev() {
         at = climb(chain, at, positions[i], value);
         records::put(value, i * w, slots);
     }
@@ -49,7 +48,8 @@ pub fn refill(chain: Chain, seed: &[u8], positions: &[u32], slots: &mut [u8]) ->
     ensures { Refilled chain seed.now positions.now slots.old result slots.new }
 {
     let w = oneway::width(chain);
+    // Room for the widest value, since nothing here asks for memory. Two lines, of which a function would say no more.
     let mut value = [0u8; oneway::WIDEST];
-    records::copy(seed, &mut value);
+    lists::copy(seed, &mut value);
     fill(chain, positions, &mut value[..w], slots)
 }

@@ -1,1 +1,3 @@
+pub mod Answers
 pub mod Numbers
+pub mod Passing

@@ -5,10 +5,9 @@
 // stand cards beside which a rebuild was made before some rounds, with how many of those records were the same.
 #![tactic(auto)]
 
-use card::RoundAnswer;
-use pebbling::{PositionsAnswer, RoundNumber};
-use post::{OfferAnswer, SettleAnswer};
-use printing::{print, print_number, print_schedule};
+use card::Outcome;
+use pebbling::RoundNumber;
+use printing::print_schedule;
 use refusals::Refusal;
 use std::io;
 
@@ -36,8 +35,8 @@ const BESIDE: [u32; 21] = [
 // What the card and the rebuilds are lent: bytes that are not zero, so that free slots and what is behind the record show.
 const LENT: [u8; CARD] = [255u8; CARD];
 
-// The figures of a ride so far.
-#[derive(Clone, Copy)]
+// The figures of a ride so far. A ride has some ten million hashes at most, so that no sum wraps.
+#[derive(Clone, Copy, Debug, PartialEq, Eq, Default)]
 struct Ride {
     credited: u32,
     hashes: u32,
@@ -45,39 +44,15 @@ struct Ride {
     held: u32,
 }
 
-// After a round: the ride goes on, or something was refused.
-#[derive(Clone, Copy)]
-enum Turn {
-    On(Ride),
-    Over,
+fn says(rt: &impl Print, who: &str, why: Refusal) -> io::Result<()> {
+    let number = refusals::number(why);
+    print!(rt; ", {who} says {number}")
 }
 
-// A sum of figures: a ride has some ten million hashes at most, so that it never wraps.
-fn sum(a: u32, b: u32) -> u32 {
-    std::num::wrapping_add_u32(a, b)
-}
-
-fn larger(a: u32, b: u32) -> u32 {
-    if a < b { b } else { a }
-}
-
-// A number between two texts.
-fn print_between(rt: &impl Print, before: &[u8], n: u32, after: &[u8]) -> io::Result<()> {
-    print(rt, before)?;
-    print_number(rt, n)?;
-    print(rt, after)
-}
-
-fn says(rt: &impl Print, who: &[u8], why: Refusal) -> io::Result<()> {
-    print(rt, b", ")?;
-    print(rt, who)?;
-    print(rt, b" says ")?;
-    print_number(rt, refusals::number(why))
-}
-
-fn over(rt: &impl Print, who: &[u8], why: Refusal) -> io::Result<Turn> {
+// Something was refused: the ride does not go on.
+fn over(rt: &impl Print, who: &str, why: Refusal) -> io::Result<Option<Ride>> {
     says(rt, who, why)?;
-    Ok(Turn::Over)
+    Ok(None)
 }
 
 // A tick is offered to the post.
@@ -87,14 +62,14 @@ fn pay(
     hashes: u32,
     tick: &[u8; 16],
     post: &mut [u8; POST],
-) -> io::Result<Turn> {
+) -> io::Result<Option<Ride>> {
     match post::offer(post, tick, 1) {
-        OfferAnswer::Refused(why) => over(rt, b"post", why),
-        OfferAnswer::Credited(ticks) => Ok(Turn::On(Ride {
-            credited: sum(ride.credited, ticks),
-            hashes: sum(ride.hashes, hashes),
-            most: larger(ride.most, hashes),
-            held: ride.held,
+        Err(why) => over(rt, "post", why),
+        Ok(ticks) => Ok(Some(Ride {
+            credited: ride.credited.wrapping_add(ticks),
+            hashes: ride.hashes.wrapping_add(hashes),
+            most: ride.most.max(hashes),
+            ..ride
         })),
     }
 }
@@ -105,19 +80,14 @@ fn run_round(
     ride: Ride,
     card: &mut [u8; CARD],
     post: &mut [u8; POST],
-) -> io::Result<Turn> {
+) -> io::Result<Option<Ride>> {
     let mut out = [0u8; 16];
     match card::round(card, &mut out) {
-        RoundAnswer::Refused(why) => over(rt, b"card", why),
-        RoundAnswer::Tick {
-            position: _,
-            hashes,
-        } => pay(rt, ride, hashes, &out, post),
-        RoundAnswer::Quiet { hashes } => Ok(Turn::On(Ride {
-            credited: ride.credited,
-            hashes: sum(ride.hashes, hashes),
-            most: ride.most,
-            held: ride.held,
+        Err(why) => over(rt, "card", why),
+        Ok(Outcome::Tick { hashes, .. }) => pay(rt, ride, hashes, &out, post),
+        Ok(Outcome::Quiet { hashes }) => Ok(Some(Ride {
+            hashes: ride.hashes.wrapping_add(hashes),
+            ..ride
         })),
     }
 }
@@ -129,23 +99,20 @@ fn count_held(
     k: u32,
     schedule: u32,
     round: RoundNumber,
-) -> io::Result<Turn> {
+) -> io::Result<Option<Ride>> {
     let mut list = [0u32; pebbling::MOST_POSITIONS];
     match pebbling::positions(k, schedule, round.0, &mut list) {
-        PositionsAnswer::Refused(why) => over(rt, b"position list", why),
-        PositionsAnswer::Listed { count, hashes: _ } => Ok(Turn::On(Ride {
-            credited: ride.credited,
-            hashes: ride.hashes,
-            most: ride.most,
-            held: larger(ride.held, count),
+        Err(why) => over(rt, "position list", why),
+        Ok(listed) => Ok(Some(Ride {
+            held: ride.held.max(listed.count),
+            ..ride
         })),
     }
 }
 
 // The card's next round, by its record.
 fn next_round(card: &[u8; CARD]) -> RoundNumber {
-    let bytes = [card[8], card[9], card[10], card[11]];
-    RoundNumber(records::word(&bytes))
+    RoundNumber(u32::from_le_bytes([card[8], card[9], card[10], card[11]]))
 }
 
 // All rounds, up to the first refusal.
@@ -156,53 +123,36 @@ fn run_rounds(
     card: &mut [u8; CARD],
     post: &mut [u8; POST],
 ) -> io::Result<Ride> {
-    let mut ride = Ride {
-        credited: 0,
-        hashes: 0,
-        most: 0,
-        held: 0,
-    };
+    let mut ride = Ride::default();
     let mut rounds: u32 = 0;
-    while rounds < ROUNDS {
+    for round in 1..=ROUNDS {
         let next = next_round(card);
-        let Turn::On(counted) = count_held(rt, ride, k, schedule, next)? else {
+        let Some(counted) = count_held(rt, ride, k, schedule, next)? else {
             break;
         };
-        let Turn::On(after) = run_round(rt, counted, card, post)? else {
+        let Some(after) = run_round(rt, counted, card, post)? else {
             break;
         };
         ride = after;
-        rounds += 1;
+        rounds = round;
     }
-    print_between(rt, b" after ", rounds, b" rounds")?;
+    print!(rt; " after {rounds} rounds")?;
     Ok(ride)
 }
 
-fn card_agrees(rt: &impl Print, call: &[u8], answer: card::Answer) -> io::Result<bool> {
-    match answer {
-        card::Answer::Done => Ok(true),
-        card::Answer::Refused(why) => {
-            says(rt, call, why)?;
-            Ok(false)
-        }
+// Whether a call was not refused, and who refused it.
+fn agrees(rt: &impl Print, call: &str, answer: Result<(), Refusal>) -> io::Result<bool> {
+    if let Err(why) = answer {
+        says(rt, call, why)?;
     }
+    Ok(answer.is_ok())
 }
 
-fn post_agrees(rt: &impl Print, call: &[u8], answer: post::Answer) -> io::Result<bool> {
+fn print_settled(rt: &impl Print, answer: Result<bool, Refusal>) -> io::Result<()> {
     match answer {
-        post::Answer::Done => Ok(true),
-        post::Answer::Refused(why) => {
-            says(rt, call, why)?;
-            Ok(false)
-        }
-    }
-}
-
-fn print_settled(rt: &impl Print, answer: SettleAnswer) -> io::Result<()> {
-    match answer {
-        SettleAnswer::Refused(why) => says(rt, b"settle", why),
-        SettleAnswer::Yes => print(rt, b", settle says yes"),
-        SettleAnswer::No => print(rt, b", settle says no"),
+        Err(why) => says(rt, "settle", why),
+        Ok(true) => print!(rt; ", settle says yes"),
+        Ok(false) => print!(rt; ", settle says no"),
     }
 }
 
@@ -212,219 +162,205 @@ fn settle(
     function: u32,
     k: u32,
     anchor: &[u8; 16],
-    post: [u8; POST],
+    post: &[u8; POST],
 ) -> io::Result<()> {
-    let paid = records::word(&post[4..8]);
+    let paid = u32::from_le_bytes([post[4], post[5], post[6], post[7]]);
     print_settled(rt, post::settle(function, k, anchor, &post[24..40], paid))?;
-    print_between(rt, b" to ", paid, b" paid")
+    print!(rt; " to {paid} paid")
 }
 
 // What the post says to its value held, the last tick: 0 where it takes it.
-fn offer_again(rt: &impl Print, post: [u8; POST]) -> io::Result<()> {
-    let mut again = post;
+fn offer_again(rt: &impl Print, post: &[u8; POST]) -> io::Result<()> {
+    let mut again = *post;
     match post::offer(&mut again, &post[24..40], 1) {
-        OfferAnswer::Refused(why) => says(rt, b"post", why)?,
-        OfferAnswer::Credited(_) => print(rt, b", post says 0")?,
+        Err(why) => says(rt, "post", why)?,
+        Ok(_) => print!(rt; ", post says 0")?,
     }
-    print(rt, b" to the last tick again")
+    print!(rt; " to the last tick again")
 }
 
 fn print_figures(rt: &impl Print, ride: Ride) -> io::Result<()> {
-    print_between(rt, b": ", ride.credited, b" ticks credited")?;
-    print_between(rt, b", ", ride.hashes, b" hashes")?;
-    print_between(rt, b", at most ", ride.most, b" in a paying round")?;
-    print_between(rt, b", at most ", ride.held, b" values held")
+    let Ride {
+        credited,
+        hashes,
+        most,
+        held,
+    } = ride;
+    print!(rt; ": {credited} ticks credited, {hashes} hashes")?;
+    print!(rt; ", at most {most} in a paying round, at most {held} values held")
 }
 
-fn print_head(
-    rt: &impl Print,
+// The function and the schedule of a card, by the numbers that the calls take. The card and the post that it rides with are lent beside it, since a ride changes
+// both and reads them apart.
+#[derive(Clone, Copy, Debug, PartialEq, Eq)]
+struct Kind {
     function: u32,
     schedule: u32,
-    name: &[u8],
-    n: u32,
-) -> io::Result<()> {
-    print_between(rt, b"function ", function, b", ")?;
-    print_schedule(rt, schedule)?;
-    print_between(rt, name, n, b"")
 }
 
-// A post is enrolled for a card, and the ride is run.
-fn run_ride(
-    rt: &impl Print,
-    function: u32,
-    schedule: u32,
-    k: u32,
-    anchor: &[u8; 16],
-    card: &mut [u8; CARD],
-) -> io::Result<()> {
-    let mut post = [0u8; POST];
-    if post_agrees(rt, b"enrol", post::enrol(function, k, anchor, &mut post))? {
-        print_figures(rt, run_rounds(rt, k, schedule, card, &mut post)?)?;
-        settle(rt, function, k, anchor, post)?;
-        offer_again(rt, post)?;
+impl Kind {
+    fn print_head(self, rt: &impl Print) -> io::Result<()> {
+        let function = self.function;
+        print!(rt; "function {function}, ")?;
+        print_schedule(rt, self.schedule)
     }
-    Ok(())
-}
 
-// A card of 2^k ticks.
-fn run(rt: &impl Print, function: u32, schedule: u32, k: u32) -> io::Result<()> {
-    let seed = SEED;
-    let mut anchor = [0u8; 16];
-    let mut card = [0u8; CARD];
-    print_head(rt, function, schedule, b", k = ", k)?;
-    card_agrees(rt, b"anchor", card::anchor(function, k, &seed, &mut anchor))?;
-    card_agrees(
-        rt,
-        b"start",
-        card::start(function, k, schedule, &seed, &mut card),
-    )?;
-    run_ride(rt, function, schedule, k, &anchor, &mut card)?;
-    print(rt, b"\n")
-}
-
-// The ride of a card of n ticks, with a post for the k that stands in the card's record.
-fn run_level(
-    rt: &impl Print,
-    function: u32,
-    schedule: u32,
-    anchor: &[u8; 16],
-    card: &mut [u8; CARD],
-) -> io::Result<()> {
-    let k = records::wide(card[4]);
-    print_between(rt, b", k = ", k, b"")?;
-    run_ride(rt, function, schedule, k, anchor, card)
-}
-
-// A card of n ticks. One that is refused has no k to ride with.
-fn run_ticks(rt: &impl Print, function: u32, schedule: u32, ticks: u32) -> io::Result<()> {
-    let seed = SEED;
-    let mut anchor = [0u8; 16];
-    let mut card = [0u8; CARD];
-    print_head(rt, function, schedule, b", ticks = ", ticks)?;
-    card_agrees(
-        rt,
-        b"anchor",
-        card::anchor_ticks(function, ticks, &seed, &mut anchor),
-    )?;
-    if card_agrees(
-        rt,
-        b"start",
-        card::start_ticks(function, ticks, schedule, &seed, &mut card),
-    )? {
-        run_level(rt, function, schedule, &anchor, &mut card)?;
+    // A post is enrolled for a card, and the ride is run.
+    fn run_ride(
+        self,
+        rt: &impl Print,
+        k: u32,
+        anchor: &[u8; 16],
+        card: &mut [u8; CARD],
+    ) -> io::Result<()> {
+        let mut post = [0u8; POST];
+        let enrolled = post::enrol(self.function, k, anchor, &mut post);
+        if agrees(rt, "enrol", enrolled)? {
+            print_figures(rt, run_rounds(rt, k, self.schedule, card, &mut post)?)?;
+            settle(rt, self.function, k, anchor, &post)?;
+            offer_again(rt, &post)?;
+        }
+        Ok(())
     }
-    print(rt, b"\n")
+
+    // A card of 2^k ticks.
+    fn run(self, rt: &impl Print, k: u32) -> io::Result<()> {
+        let mut anchor = [0u8; 16];
+        let mut card = [0u8; CARD];
+        self.print_head(rt)?;
+        print!(rt; ", k = {k}")?;
+        let told = card::anchor(self.function, k, &SEED, &mut anchor);
+        agrees(rt, "anchor", told)?;
+        let started = card::start(self.function, k, self.schedule, &SEED, &mut card);
+        agrees(rt, "start", started)?;
+        self.run_ride(rt, k, &anchor, &mut card)?;
+        println!(rt)
+    }
+
+    // A card of n ticks, with a post for the k that stands in the card's record. One that is refused has no k to ride with.
+    fn run_ticks(self, rt: &impl Print, ticks: u32) -> io::Result<()> {
+        let mut anchor = [0u8; 16];
+        let mut card = [0u8; CARD];
+        self.print_head(rt)?;
+        print!(rt; ", ticks = {ticks}")?;
+        let told = card::anchor_ticks(self.function, ticks, &SEED, &mut anchor);
+        agrees(rt, "anchor", told)?;
+        let started = card::start_ticks(self.function, ticks, self.schedule, &SEED, &mut card);
+        if agrees(rt, "start", started)? {
+            let k = u32::from(card[4]);
+            print!(rt; ", k = {k}")?;
+            self.run_ride(rt, k, &anchor, &mut card)?;
+        }
+        println!(rt)
+    }
+
+    // Whether a rebuild before a round leaves the very bytes of the card that was run there.
+    fn rebuilds(self, rt: &impl Print, round: u32, card: &[u8; CARD]) -> io::Result<bool> {
+        let mut rebuilt = LENT;
+        let answer = card::rebuild(
+            self.function,
+            BESIDE_K,
+            self.schedule,
+            round,
+            &SEED,
+            &mut rebuilt,
+        );
+        Ok(agrees(rt, "rebuild", answer)? && rebuilt == *card)
+    }
+
+    // A card is run to its end, and rebuilds are made beside it: how many left its bytes.
+    fn count_rebuilt(self, rt: &impl Print, card: &mut [u8; CARD]) -> io::Result<u32> {
+        let mut count: u32 = 0;
+        for round in BESIDE {
+            run_up_to(round, card);
+            if self.rebuilds(rt, round, card)? {
+                count = count.saturating_add(1);
+            }
+        }
+        Ok(count)
+    }
+
+    fn run_beside(self, rt: &impl Print) -> io::Result<()> {
+        let mut card = LENT;
+        self.print_head(rt)?;
+        print!(rt; ", k = {BESIDE_K}")?;
+        let started = card::start(self.function, BESIDE_K, self.schedule, &SEED, &mut card);
+        agrees(rt, "start", started)?;
+        let count = self.count_rebuilt(rt, &mut card)?;
+        println!(rt; ", rebuilt before 21 rounds from 1 to 2048: {count} the same")
+    }
+
+    // A rebuild before a round that the card does not have.
+    fn rebuild_refused(self, rt: &impl Print, round: u32) -> io::Result<()> {
+        self.print_head(rt)?;
+        print!(rt; ", k = 10, round {round}")?;
+        self.rebuilds(rt, round, &LENT)?;
+        println!(rt)
+    }
 }
 
 // Rounds of a card, until the next is this one.
 fn run_up_to(round: u32, card: &mut [u8; CARD]) {
     for _ in 0..round {
-        let next = next_round(card);
-        if next.0 < round {
+        if next_round(card).0 < round {
             let mut out = [0u8; 16];
-            card::round(card, &mut out);
+            let _ = card::round(card, &mut out);
         }
     }
-}
-
-// Whether a rebuild before a round leaves the very bytes of the card that was run there.
-fn rebuilds(
-    rt: &impl Print,
-    function: u32,
-    schedule: u32,
-    round: u32,
-    card: &[u8; CARD],
-) -> io::Result<bool> {
-    let seed = SEED;
-    let mut rebuilt = LENT;
-    let agreed = card_agrees(
-        rt,
-        b"rebuild",
-        card::rebuild(function, BESIDE_K, schedule, round, &seed, &mut rebuilt),
-    )?;
-    Ok(agreed && records::same(&rebuilt, card))
-}
-
-// A card is run to its end, and rebuilds are made beside it: how many left its bytes.
-fn count_rebuilt(
-    rt: &impl Print,
-    function: u32,
-    schedule: u32,
-    card: &mut [u8; CARD],
-) -> io::Result<u32> {
-    let rounds = BESIDE;
-    let mut count: u32 = 0;
-    for i in 0..21 {
-        let round = rounds[i];
-        run_up_to(round, card);
-        if rebuilds(rt, function, schedule, round, card)? {
-            count = sum(count, 1);
-        }
-    }
-    Ok(count)
-}
-
-fn run_beside(rt: &impl Print, function: u32, schedule: u32) -> io::Result<()> {
-    let seed = SEED;
-    let mut card = LENT;
-    print_head(rt, function, schedule, b", k = ", BESIDE_K)?;
-    card_agrees(
-        rt,
-        b"start",
-        card::start(function, BESIDE_K, schedule, &seed, &mut card),
-    )?;
-    let count = count_rebuilt(rt, function, schedule, &mut card)?;
-    print_between(
-        rt,
-        b", rebuilt before 21 rounds from 1 to 2048: ",
-        count,
-        b" the same\n",
-    )
-}
-
-// A rebuild before a round that the card does not have.
-fn rebuild_refused(rt: &impl Print, function: u32, schedule: u32, round: u32) -> io::Result<()> {
-    let card = LENT;
-    print_head(rt, function, schedule, b", k = 10, round ", round)?;
-    rebuilds(rt, function, schedule, round, &card)?;
-    print(rt, b"\n")
 }
 
 fn run_function(rt: &impl Print, function: u32) -> io::Result<()> {
-    run(rt, function, 3, 15)?;
-    run(rt, function, 3, 16)?;
-    run(rt, function, 3, 20)?;
-    run(rt, function, 0, 15)?;
-    run(rt, function, 1, 15)?;
-    run(rt, function, 2, 15)?;
-    run(rt, function, 3, 21)
+    for (schedule, k) in [
+        (3, 15),
+        (3, 16),
+        (3, 20),
+        (0, 15),
+        (1, 15),
+        (2, 15),
+        (3, 21),
+    ] {
+        Kind { function, schedule }.run(rt, k)?;
+    }
+    Ok(())
 }
 
 fn run_function_ticks(rt: &impl Print, function: u32) -> io::Result<()> {
-    run_ticks(rt, function, 3, 0)?;
-    run_ticks(rt, function, 3, 1_048_577)?;
-    run_ticks(rt, function, 3, 1)?;
-    run_ticks(rt, function, 3, 2)?;
-    run_ticks(rt, function, 3, 3)?;
-    run_ticks(rt, function, 3, 300)?;
-    run_ticks(rt, function, 1, 300)?;
-    run_ticks(rt, function, 3, 65_537)
+    for (schedule, ticks) in [
+        (3, 0),
+        (3, 1_048_577),
+        (3, 1),
+        (3, 2),
+        (3, 3),
+        (3, 300),
+        (1, 300),
+        (3, 65_537),
+    ] {
+        Kind { function, schedule }.run_ticks(rt, ticks)?;
+    }
+    Ok(())
 }
 
 fn run_function_beside(rt: &impl Print, function: u32) -> io::Result<()> {
-    run_beside(rt, function, 0)?;
-    run_beside(rt, function, 1)?;
-    run_beside(rt, function, 2)?;
-    run_beside(rt, function, 3)?;
-    rebuild_refused(rt, function, 3, 0)?;
-    rebuild_refused(rt, function, 3, 2049)
+    for schedule in 0..4 {
+        Kind { function, schedule }.run_beside(rt)?;
+    }
+    let optimal = Kind {
+        function,
+        schedule: 3,
+    };
+    optimal.rebuild_refused(rt, 0)?;
+    optimal.rebuild_refused(rt, 2049)
 }
 
 fn main(rt: HostRuntime) -> io::Result<()> {
     run_function(&rt, 0)?;
     run_function(&rt, 1)?;
     run_function_ticks(&rt, 0)?;
-    run_ticks(&rt, 0, 3, 1_048_575)?;
+    let optimal = Kind {
+        function: 0,
+        schedule: 3,
+    };
+    optimal.run_ticks(&rt, 1_048_575)?;
     run_function_ticks(&rt, 1)?;
     run_function_beside(&rt, 0)?;
     run_function_beside(&rt, 1)

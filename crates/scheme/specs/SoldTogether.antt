@@ -2,11 +2,8 @@
 -- and is offered what the card's rounds put out: for every known function, every n from 1 to 1,048,576, every schedule and every seed of
 -- the function's width. Assumes nothing.
 use Rattle.std.specs.Prelude.{◌≡◌, List, [], ◌∷◌, ℕ, suc, ◌+◌, ◌-◌, ◌^◌, ◌≤◌, ◌<◌, length, take}
-use Rattle.std.proofs.Math.Path.{ap}
-use Rattle.std.proofs.Common.{◌∙◌, arith}
-use Rattle.std.proofs.Math.Seq.{take_at}
+use Rattle.std.proofs.Common.{arith}
 use Rattle.levels.specs.Levels.{level, level_is_the_least, level_small}
-use Rattle.records.specs.Chains.{chain_length}
 use Rattle.oneway.specs.declared.Chain.{Chain}
 use Rattle.oneway.specs.Step.{width, step}
 use Rattle.pebbling.specs.Recursion.{chain}
@@ -15,6 +12,7 @@ use Rattle.rebuilds.specs.Ticks.{Sold, sold_card, sold_round_pays, anchor_of_n_t
 use Rattle.post.specs.Record.{size, head_of}
 use Rattle.post.specs.Promises.{enrol_must_say, offer_must_say, offer_post, settle_must_say}
 use Rattle.post.specs.Ride.{Allowed, Ride, ride_enrolled, ride_credits, ride_paid, ride_spent, ride_unspent, ride_settles, ride_takes_missed, ride_counts_missed, ride_refuses_missed, after as offered}
+use Rattle.scheme.specs.Together.{element_in_front}
 
 -- the card: started with n ticks and run, its round m, from 0 on, with the out buffer `outs m`
 module _ (function n s : ℕ) (seed lent : List ℕ) (sold : Sold function n s seed lent)
@@ -32,9 +30,7 @@ module _ (function n s : ℕ) (seed lent : List ℕ) (sold : Sold function n s s
   -- it is the chain's element of the tick's number
   pub sold_tick_is : (m i : ℕ) → m + suc i ≡ n → sold_tick m ≡ x i
   unfolding sold_tick
-  sold_tick_is m i e =
-      ap (take (width c)) (sold_round_pays function n s seed lent sold outs wide m i e)
-      ∙ take_at (x i) _ (width c) (chain_length c seed sold.seeded i)
+  sold_tick_is m i e = element_in_front c seed sold.seeded i _ _ (sold_round_pays function n s seed lent sold outs wide m i e)
 
   -- the anchor that the card's maker writes to the front of `buffer`
   module _ (buffer : List ℕ) (room : width c ≤ length buffer) where
@@ -44,8 +40,7 @@ module _ (function n s : ℕ) (seed lent : List ℕ) (sold : Sold function n s s
     pub sold_anchor_is : sold_anchor ≡ x n
     unfolding sold_anchor
     sold_anchor_is =
-        ap (take (width c)) (anchor_of_n_ticks function n seed sold.known sold.some sold.few sold.seeded buffer room)
-        ∙ take_at (x n) _ (width c) (chain_length c seed sold.seeded n)
+        element_in_front c seed sold.seeded n _ _ (anchor_of_n_ticks function n seed sold.known sold.some sold.few sold.seeded buffer room)
 
     -- the post: enrolled with that anchor and the card's level, and then offered the ticks in order, each with a gap limit of its own
     module _ (post : List ℕ) (long : size ≤ length post) (gaps : ℕ → ℕ) (allowed : (m : ℕ) → Allowed (gaps m)) where

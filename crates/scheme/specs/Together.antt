@@ -3,6 +3,7 @@
 use Rattle.std.specs.Prelude.{◌≡◌, refl, List, [], ◌∷◌, ℕ, suc, ◌+◌, ◌-◌, ◌^◌, ◌≤◌, ◌<◌, length, take}
 use Rattle.std.proofs.Math.Path.{ap}
 use Rattle.std.proofs.Common.{◌∙◌, arith, pow_pos}
+use Rattle.lists.specs.Writing.{over}
 use Rattle.std.proofs.Math.Nat.{pow-succ'}
 use Rattle.std.proofs.Math.Seq.{take_at}
 use Rattle.records.specs.Chains.{chain_length}
@@ -15,6 +16,12 @@ use Rattle.card.specs.Demands.{paying_round_pays, anchor_is_the_last}
 use Rattle.post.specs.Record.{size, head_of}
 use Rattle.post.specs.Promises.{enrol_must_say, offer_must_say, offer_post, settle_must_say}
 use Rattle.post.specs.Ride.{Allowed, Ride, ride_enrolled, ride_credits, ride_paid, ride_spent, ride_settles, ride_takes_missed, ride_counts_missed, ride_refuses_missed, after as offered}
+
+-- an element of the chain that stands at the front of a buffer is read back from there
+pub element_in_front : (c : Chain) (seed : List ℕ) → length seed ≡ width c → (n : ℕ) (buffer out : List ℕ)
+    → buffer ≡ over (chain (step c) seed n) out → take (width c) buffer ≡ chain (step c) seed n
+element_in_front c seed seeded n buffer out e =
+    ap (take (width c)) e ∙ take_at (chain (step c) seed n) _ (width c) (chain_length c seed seeded n)
 
 -- the card: started with the seed and run, round r with the out buffer `outs r`
 module _ (function k s : ℕ) (seed lent : List ℕ) (given : Given function k s seed lent)
@@ -35,8 +42,7 @@ module _ (function k s : ℕ) (seed lent : List ℕ) (given : Given function k s
   tick_is m n e =
       let r = 2 ^ k + m in
       let two = pow-succ' 2 k in
-      ap (take (width c)) (paying_round_pays function k s seed lent given outs wide r n (omega arith) (omega arith))
-      ∙ take_at (x n) _ (width c) (chain_length c seed given.seeded n)
+      element_in_front c seed given.seeded n _ _ (paying_round_pays function k s seed lent given outs wide r n (omega arith) (omega arith))
 
   -- the anchor that the card's maker writes to the front of `buffer`
   module _ (buffer : List ℕ) (room : width c ≤ length buffer) where
@@ -45,9 +51,7 @@ module _ (function k s : ℕ) (seed lent : List ℕ) (given : Given function k s
 
     pub anchor_is : anchor ≡ x (2 ^ k)
     unfolding anchor
-    anchor_is =
-        ap (take (width c)) (anchor_is_the_last function k s seed lent given buffer room)
-        ∙ take_at (x (2 ^ k)) _ (width c) (chain_length c seed given.seeded (2 ^ k))
+    anchor_is = element_in_front c seed given.seeded (2 ^ k) _ _ (anchor_is_the_last function k s seed lent given buffer room)
 
     -- the post: enrolled with that anchor, and then offered the ticks in order, each with a gap limit of its own
     module _ (post : List ℕ) (long : size ≤ length post) (gaps : ℕ → ℕ) (allowed : (m : ℕ) → Allowed (gaps m)) where

@@ -2,7 +2,7 @@
 -- which grow by one just there. Assumes nothing.
 use mathlib.Core.Path.{◌≡◌, refl, sym, ap, ◌∙◌}
 use mathlib.Core.Bool.{Bool, true, false, cond}
-use mathlib.Core.List.{List, [], ◌∷◌, ◌++◌}
+use mathlib.Core.List.{List, [], ◌∷◌, ◌++◌, append_assoc}
 use Prim.Native.Nat.{ℕ, zero, suc, ◌+◌, ◌-◌, ◌*◌, ◌^◌, ◌≤◌, ◌<◌}
 use native.Mathlib.Nat.{mul-le-mul_left, add-zero, add-suc}
 use native.Mathlib.Numerals.{add-one}
@@ -10,15 +10,14 @@ use native.Mathlib.Omega.{arith}
 use lib.ListN.{length, take, drop, length-take, length-drop}
 use lib.Seq.{take_at, drop_at, drop-drop}
 use borrow.Rule.Slice.PartMut.{put_mid}
-use Rattle.lists.specs.Parts.{part_tail, put_tail, put_part, drop_put, drop_past, drop_over, put_length}
+use Rattle.std.specs.List.{copy_within}
+use Rattle.lists.specs.Parts.{put_part, drop_put, drop_past, drop_over, put_length}
 use Rattle.lists.specs.Values.{values, on_first, values_first}
-use Rattle.lists.specs.Writing.{over}
 use Rattle.pebbling.specs.OnePebbler.{held_begin, held_on, hashes_last}
 use Rattle.pebbling.specs.Promises.{Holds}
 use Rattle.pebbling.specs.Recursion.{finished, hash, hashes}
 use Rattle.pebbling.specs.SideBySide.{held_some}
 use Rattle.slots.specs.Hashing.{many, again, Opening, Opened, Hashing, Hashed}
-use Rattle.slots.proofs.Copying.{second_length}
 
 -- ---- counts
 
@@ -87,28 +86,21 @@ module _ {w k h at : ℕ} {new : List ℕ} (asked : Opening w k h at new) {befor
     pub open_space : w ≤ at
     open_space = omega (arith, rw grown at asked.space)
 
-    -- what `repeat` is lent
-    abbrev lent : List ℕ
-    lent = take (length new - (at - w)) (drop (at - w) new)
-
-    pub open_lent : w + w ≤ length (take (length new - (at - w)) (drop (at - w) new))
-    open_lent = rw (part_tail (at - w) new, length-drop) (omega (arith, open_space, asked.inside, mul-le-mul_left w (held_some k h 0)))
-
-    pub open_begins : {back : List ℕ} → back ≡ over (take w (drop w lent)) lent → Opened w k h at new (at - w) (put_mid (at - w) (length new - (at - w)) new back)
-    open_begins {back} e =
+    pub open_begins : {new' : List ℕ} → new' ≡ copy_within new at (at + w) (at - w) → Opened w k h at new (at - w) new'
+    open_begins {new'} e =
         let more : w * 1 ≤ w * many k h = mul-le-mul_left w (held_some k h 0) in
-        let u : w ≤ at = open_space in
-        let v : at - w + w ≡ at = omega arith in
+        let l : w ≤ at = open_space in
         let inside : at + w * many k h ≤ length new = asked.inside in
-        let z : drop w lent ≡ drop at new = ap (drop w) (part_tail (at - w) new) ∙ drop-drop w (at - w) new ∙ ap (λ (n : ℕ). drop n new) v in
+        let u : at + w - at ≡ w = omega arith in
+        let v : at - w + w ≡ at = omega arith in
         let i : w ≤ length (drop at new) = simp length-drop (omega arith) in
         let j : length (take w (drop at new)) ≡ w = simp length-take (omega arith) in
-        let f : back ≡ take w (drop at new) ++ drop at new =
-        e ∙ ap (λ (n : ℕ). take w (drop w lent) ++ drop n lent) (second_length w lent open_lent) ∙ ap (λ (s : List ℕ). take w s ++ s) z in
+        let f : new' ≡ take (at - w) new ++ (take w (drop at new) ++ drop at new) =
+        e ∙ rw (u, v) (append_assoc (take (at - w) new) (take w (drop at new)) (drop at new)) in
         let s : at + w * many k h ≡ at - w + (w + w * many k h) = omega arith in
         let d : drop (w + w * many k h) (take w (drop at new) ++ drop at new) ≡ drop (w * many k h) (drop at new) =
         rw j at (drop_over (w * many k h) (take w (drop at new)) (drop at new)) in
-        rw (put_tail (at - w) new back (omega arith), f) (record {
+        rw f (record {
           place = rw grown (omega arith);
           holds =
               rw (grown, drop_put (at - w) new (take w (drop at new) ++ drop at new) (omega arith))

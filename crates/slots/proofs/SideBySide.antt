@@ -1,4 +1,4 @@
--- P_k past its round 2^k on slots: what `children` and `advance` come to over plain lists. No child above the highest bit of the rounds left runs, so that
+-- P_k past its round 2^k on slots: what `children` comes to over plain lists. No child above the highest bit of the rounds left runs, so that
 -- P_k does what the P_(j+1) of that bit does; and that is two P_j, one behind the other. Assumes nothing.
 use mathlib.Core.Path.{◌≡◌, ap, ◌∙◌}
 use mathlib.Core.List.{List}
@@ -15,7 +15,7 @@ use Rattle.oneway.specs.declared.Chain.{Chain}
 use Rattle.oneway.specs.Step.{width, step}
 use Rattle.pebbling.specs.HashesDone.{fair}
 use Rattle.pebbling.specs.Len.{len, len_law, len_le, len_lt, lt_len}
-use Rattle.pebbling.specs.Promises.{Power, Bits, Left}
+use Rattle.pebbling.specs.Promises.{Power, Bits}
 use Rattle.pebbling.specs.Recursion.{schedule, positions}
 use Rattle.pebbling.specs.SideBySide.{work_split}
 use Rattle.pebbling.specs.Totals.{work_lt}
@@ -212,15 +212,3 @@ module _ {chain : Chain} {s k n c j half m : ℕ} {old new : List ℕ} (p : Spli
         pub both_move : {rds wrs hs : ℕ} → (rds ≡ rd + rd') × (wrs ≡ wr + wr') × (hs ≡ h + h')
             → Advanced chain s k (2 ^ k + n) old new rds wrs hs (put_mid wr (length mid - wr) mid y)
         both_move sums = rw (sums.0, sums.1, sums.2) (halves.1 _ _ _ _ (halves_move halves.0 p.some early upper kept lower))
-
--- ---- advance: past round 2^k
-
-module _ {chain : Chain} {s k r whole : ℕ} {old new : List ℕ} (asked : Advancing chain s k r old new) (p : Power k whole) (late : whole < r) where
-  since : r ≡ 2 ^ k + (r - whole)
-  since = omega (arith, p.is)
-
-  pub late_asks : {c : ℕ} → Left k r c → Advancing chain s k (2 ^ k + (r - whole)) old new × ((0 < r - whole) × (r - whole + c ≡ 2 ^ k))
-  late_asks left = (rw since at asked, (omega arith, omega (arith, p.is, left.whole)))
-
-  pub late_moves : {rd wr h : ℕ} {new' : List ℕ} → Advanced chain s k (2 ^ k + (r - whole)) old new rd wr h new' → Advanced chain s k r old new rd wr h new'
-  late_moves moves = rw since moves

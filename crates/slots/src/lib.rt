@@ -3,35 +3,43 @@
 // follows from the level, the schedule and the round alone.
 #![tactic(auto)]
 
-ghost use Rattle.std.specs.Prelude.{◌≡◌, suc, ◌+◌, ◌*◌, ◌^◌, ◌≤◌, ◌<◌, T, length, take, drop};
-ghost use Rattle.lists.specs.Writing.{over};
+ghost use Rattle.std.specs.Prelude.{◌≡◌, suc, ◌+◌, ◌*◌, ◌^◌, ◌≤◌, ◌<◌, T, length, drop};
 ghost use Rattle.oneway.specs.Step.{known, step};
 ghost use Rattle.oneway.specs.Step.{width as width_of};
 ghost use Rattle.slots.specs.Hashing.{Opening, Opened, Hashing, Hashed};
 ghost use Rattle.slots.specs.Moves.{Moves, Advancing, Advanced, Fits};
 
+use lists::copy;
 use oneway::Chain;
 use pebbling::hashes::{hashes_done, hashes_in, held_count_after};
 use pebbling::powers::{bits, power};
 use pebbling::{RoundNumber, RoundsLeft, rounds_left};
-use records::copy;
+use std::ops::Add;
 
 // The bytes read of the old slots and written of the new ones, and how often f was applied. The count stands between the two
 // lengths: side by side they would be added as one vector, and that has to wait for both to be stored.
-#[derive(Clone, Copy)]
+#[derive(Clone, Copy, Debug, PartialEq, Eq)]
 pub struct Moved {
     pub read: usize,
     pub hashes: u32,
     pub written: usize,
 }
 
-// Writes the second w bytes over the first.
-fn repeat(w: usize, bytes: &mut [u8])
-    requires { w + w ≤ length bytes.old }
-    ensures { bytes.new ≡ over (take w (drop w bytes.old)) bytes.old }
-{
-    for i in 0..w {
-        bytes[i] = bytes[w + i];
+// Two moves, one behind the other, as one.
+impl Add for Moved {
+    type Output = Moved;
+
+    ghost can_add = { λ upper lower. Fits upper.read lower.read upper.written lower.written upper.hashes lower.hashes };
+
+    ghost add_gives = { λ upper lower both. (both.read ≡ upper.read + lower.read) × (both.written ≡ upper.written + lower.written)
+        × (both.hashes ≡ upper.hashes + lower.hashes) };
+
+    fn add(self, lower: Moved) -> Moved {
+        Moved {
+            read: self.read + lower.read,
+            written: self.written + lower.written,
+            hashes: self.hashes + lower.hashes,
+        }
     }
 }
 
@@ -45,7 +53,7 @@ fn open(w: usize, k: u32, h: u32, at: usize, new: &mut [u8]) -> usize
     let after = held_count_after(k, h + 1);
     if before < after {
         let to = at - w;
-        repeat(w, &mut new[to..]);
+        new.copy_within(at..at + w, to);
         return to;
     }
     at
@@ -60,8 +68,9 @@ fn hash(chain: Chain, k: u32, h: u32, n: u32, at: usize, new: &mut [u8]) -> u32
 {
     let w = oneway::width(chain);
     let mut newest = at;
-    let mut applied: u32 = 0;
-    while applied < n {
+    // Counted beside the call, and nowhere else: no contract speaks of work.
+    let mut applied = 0;
+    for _ in 0..n {
         let to = open(w, k, h + applied, newest, new);
         let end = to + w;
         oneway::apply(chain, &mut new[to..end]);
@@ -71,104 +80,90 @@ fn hash(chain: Chain, k: u32, h: u32, n: u32, at: usize, new: &mut [u8]) -> u32
     applied
 }
 
-// P_k in a preparing round. Its values go behind the room for those that the round begins, and it hashes; a round without a
-// hash only moves them.
-fn prepare(
+// P_k of a card: its chain and its schedule, by its number as pebbling takes it, with it. The slots that are read and those that are written are lent beside it, since each walk
+// goes on with a part of its own of either.
+#[derive(Clone, Copy, Debug, PartialEq, Eq)]
+struct Pebbler {
     chain: Chain,
     schedule: u32,
     k: u32,
-    round: RoundNumber,
-    old: &[u8],
-    new: &mut [u8],
-) -> Moved
-    requires advancing { Advancing chain schedule k round.0 old.now new.old }
-    requires round_bound { round.0 < 2 ^ k }
-    ensures { Advanced chain schedule k round.0 old.now new.old result.read result.written result.hashes new.new }
-{
-    let w = oneway::width(chain);
-    let h = hashes_done(schedule, k, round);
-    let n = hashes_in(schedule, k, round);
-    let read = held_count_after(k, h) as usize * w;
-    if n == 0 {
-        copy(&old[..read], new);
-        return Moved {
+}
+
+impl Pebbler {
+    // P_k in a preparing round. Its values go behind the room for those that the round begins, and it hashes; a round without a
+    // hash only moves them.
+    fn prepare(self, round: RoundNumber, old: &[u8], new: &mut [u8]) -> Moved
+        requires advancing { Advancing self.chain self.schedule self.k round.0 old.now new.old }
+        requires round_bound { round.0 < 2 ^ self.k }
+        ensures { Advanced self.chain self.schedule self.k round.0 old.now new.old result.read result.written result.hashes new.new }
+    {
+        let k = self.k;
+        let w = oneway::width(self.chain);
+        let h = hashes_done(self.schedule, k, round);
+        let n = hashes_in(self.schedule, k, round);
+        let read = held_count_after(k, h) as usize * w;
+        if n == 0 {
+            copy(&old[..read], new);
+            return Moved {
+                read,
+                written: read,
+                hashes: 0,
+            };
+        }
+        let written = held_count_after(k, h + n) as usize * w;
+        let at = written - read;
+        copy(&old[..read], &mut new[at..]);
+        let applied = hash(self.chain, k, h, n, at, new);
+        Moved {
             read,
-            written: read,
+            written,
+            hashes: applied,
+        }
+    }
+
+    // P_k in its round 2^k: its first value is the tick and stays behind, and the others move.
+    fn put_out(self, old: &[u8], new: &mut [u8]) -> Moved
+        requires { (self.k ≤ 20) × (width_of self.chain * suc self.k ≤ length old.now) × (width_of self.chain * self.k ≤ length new.old) }
+        ensures { Moves (width_of self.chain) (suc self.k) self.k 0 (drop 1) old.now new.old result.read result.written result.hashes new.new }
+    {
+        let w = oneway::width(self.chain);
+        let written = self.k as usize * w;
+        let read = w + written;
+        copy(&old[w..read], new);
+        Moved {
+            read,
+            written,
             hashes: 0,
-        };
+        }
     }
-    let written = held_count_after(k, h + n) as usize * w;
-    let at = written - read;
-    copy(&old[..read], &mut new[at..]);
-    let applied = hash(chain, k, h, n, at, new);
-    Moved {
-        read,
-        written,
-        hashes: applied,
-    }
-}
 
-// P_k in its round 2^k: its first value is the tick and stays behind, and the others move.
-fn put_out(chain: Chain, k: u32, old: &[u8], new: &mut [u8]) -> Moved
-    requires { (k ≤ 20) × (width_of chain * suc k ≤ length old.now) × (width_of chain * k ≤ length new.old) }
-    ensures { Moves (width_of chain) (suc k) k 0 (drop 1) old.now new.old result.read result.written result.hashes new.new }
-{
-    let w = oneway::width(chain);
-    let written = k as usize * w;
-    let read = w + written;
-    copy(&old[w..read], new);
-    Moved {
-        read,
-        written,
-        hashes: 0,
+    // P_0 to P_(k-1) side by side, each in this round, and the rounds left until none of them runs; one that has ended is followed
+    // into its own children, 2^i rounds on. The highest bit of the rounds left names the highest that runs, P_j: its round is the
+    // round less the rounds of those that have ended, and its rounds left are these. Up to its round 2^j its values stand behind
+    // those of P_0 to P_(j-1), which are in the same round then and have 2^j rounds left less; in round 2^j they have ended.
+    fn children(self, round: RoundNumber, left: RoundsLeft, old: &[u8], new: &mut [u8]) -> Moved
+        requires advancing { Advancing self.chain self.schedule self.k (2 ^ self.k + round.0) old.now new.old }
+        requires round_nonzero { (0 < round.0) × (round.0 + left.0 ≡ 2 ^ self.k) }
+        ensures { Advanced self.chain self.schedule self.k (2 ^ self.k + round.0) old.now new.old result.read result.written result.hashes new.new }
+    {
+        let r = round.0;
+        let c = left.0;
+        let j = bits(c) - 1;
+        let half = power(j);
+        let ended = power(self.k) - 2 * half;
+        let n = r - ended;
+        let highest = Pebbler { k: j, ..self };
+        if c == half {
+            return highest.put_out(old, new);
+        }
+        let own = RoundNumber(n);
+        let rest = c - half;
+        let upper = highest.children(own, RoundsLeft(rest), old, new);
+        let read = upper.read;
+        let written = upper.written;
+        let lower = highest.prepare(own, &old[read..], &mut new[written..]);
+        upper + lower
     }
-}
-
-// Two moves, one behind the other, as one.
-fn together(upper: Moved, lower: Moved) -> Moved
-    requires { Fits upper.read lower.read upper.written lower.written upper.hashes lower.hashes }
-    ensures { (result.read ≡ upper.read + lower.read) × (result.written ≡ upper.written + lower.written) × (result.hashes ≡ upper.hashes + lower.hashes) }
-{
-    Moved {
-        read: upper.read + lower.read,
-        written: upper.written + lower.written,
-        hashes: upper.hashes + lower.hashes,
-    }
-}
-
-// P_0 to P_(k-1) side by side, each in this round, and the rounds left until none of them runs; one that has ended is followed
-// into its own children, 2^i rounds on. The highest bit of the rounds left names the highest that runs, P_j: its round is the
-// round less the rounds of those that have ended, and its rounds left are these. Up to its round 2^j its values stand behind
-// those of P_0 to P_(j-1), which are in the same round then and have 2^j rounds left less; in round 2^j they have ended.
-fn children(
-    chain: Chain,
-    schedule: u32,
-    k: u32,
-    round: RoundNumber,
-    left: RoundsLeft,
-    old: &[u8],
-    new: &mut [u8],
-) -> Moved
-    requires advancing { Advancing chain schedule k (2 ^ k + round.0) old.now new.old }
-    requires round_nonzero { (0 < round.0) × (round.0 + left.0 ≡ 2 ^ k) }
-    ensures { Advanced chain schedule k (2 ^ k + round.0) old.now new.old result.read result.written result.hashes new.new }
-{
-    let r = round.0;
-    let c = left.0;
-    let j = bits(c) - 1;
-    let half = power(j);
-    let ended = power(k) - 2 * half;
-    let n = r - ended;
-    if c == half {
-        return put_out(chain, j, old, new);
-    }
-    let own = RoundNumber(n);
-    let rest = c - half;
-    let upper = children(chain, schedule, j, own, RoundsLeft(rest), old, new);
-    let read = upper.read;
-    let written = upper.written;
-    let lower = prepare(chain, schedule, j, own, &old[read..], &mut new[written..]);
-    together(upper, lower)
 }
 
 // A round of P_k, its children with it. Up to round 2^k it runs itself, and from the next round its children run.
@@ -183,15 +178,16 @@ pub fn advance(
     requires { Advancing chain schedule k round.0 old.now new.old }
     ensures { Advanced chain schedule k round.0 old.now new.old result.read result.written result.hashes new.new }
 {
+    let pebbler = Pebbler { chain, schedule, k };
     let r = round.0;
     let whole = power(k);
     if r < whole {
-        return prepare(chain, schedule, k, round, old, new);
+        return pebbler.prepare(round, old, new);
     }
     if r == whole {
-        return put_out(chain, k, old, new);
+        return pebbler.put_out(old, new);
     }
     let n = r - whole;
     let left = rounds_left(k, round);
-    children(chain, schedule, k, RoundNumber(n), left, old, new)
+    pebbler.children(RoundNumber(n), left, old, new)
 }

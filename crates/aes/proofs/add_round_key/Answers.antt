@@ -5,4 +5,4 @@ use Rattle.aes.proofs.add_round_key.Goals as goal
 pub returns : goal.returns
 unfolding add_round_key xor_words
 returns c =
-    rw (c.xor_words-c3.ensures, c.xor_words-c2.ensures, c.xor_words-c1.ensures, c.xor_words-c0.ensures, c.columns-k.ensures)
+    rw (c.xor_words.ensures, c.xor_words-2.ensures, c.xor_words-3.ensures, c.xor_words-4.ensures, c.columns-k.ensures)

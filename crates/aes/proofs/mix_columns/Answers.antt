@@ -5,4 +5,4 @@ use Rattle.aes.proofs.mix_columns.Goals as goal
 pub returns : goal.returns
 unfolding mix_columns
 returns c =
-    rw (c.mix_column-c3.ensures, c.mix_column-c2.ensures, c.mix_column-c1.ensures, c.mix_column-c0.ensures)
+    rw (c.mix_column.ensures, c.mix_column-2.ensures, c.mix_column-3.ensures, c.mix_column-4.ensures)

@@ -5,4 +5,4 @@ use Rattle.aes.proofs.sub_bytes.Goals as goal
 pub returns : goal.returns
 unfolding sub_word sub_bytes
 returns c =
-    rw (c.sub_word-c3.ensures, c.sub_word-c2.ensures, c.sub_word-c1.ensures, c.sub_word-c0.ensures)
+    rw (c.sub_word.ensures, c.sub_word-2.ensures, c.sub_word-3.ensures, c.sub_word-4.ensures)

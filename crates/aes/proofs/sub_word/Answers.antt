@@ -5,4 +5,4 @@ use Rattle.aes.proofs.sub_word.Goals as goal
 pub returns : goal.returns
 unfolding sub_word
 returns c =
-    rw (c.sub_byte-b3.ensures, c.sub_byte-b2.ensures, c.sub_byte-b1.ensures, c.sub_byte-b0.ensures)
+    rw (c.sub_byte.ensures, c.sub_byte-2.ensures, c.sub_byte-3.ensures, c.sub_byte-4.ensures)

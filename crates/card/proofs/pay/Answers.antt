@@ -6,7 +6,7 @@ use Rattle.card.proofs.pay.Goals as goal
 
 pub returns-then-round-power : goal.returns-then-round-power
 returns-then-round-power c =
-    paid_quiet c.args.head _ c.args.slots.now c.args.out.now c.requires _ c.power.ensures c.if-round-power.true
+    paid_quiet c.args.checked.head c.args.checked.numbered _ c.args.slots.now c.args.out.now c.requires _ c.power.ensures c.if-round-power.true
 
 pub slice_bounds-copy-end : goal.slice_bounds-copy-end
 slice_bounds-copy-end c =
@@ -18,4 +18,4 @@ copy-requires c =
 
 pub returns : goal.returns
 returns c =
-    paid_tick c.args.head _ c.args.slots.now c.args.out.now c.requires _ c.power.ensures c.if-round-power.false _ _ _ c.width-w.ensures c.rounds_left-left.ensures c.copy.ensures
+    paid_tick c.args.checked.head c.args.checked.numbered _ c.args.slots.now c.args.out.now c.requires _ c.power.ensures c.if-round-power.false _ _ _ c.width-w.ensures c.rounds_left-left.ensures c.copy.ensures

@@ -1,10 +1,9 @@
 -- `levels::allowed` meets its contract. Assumes nothing.
-use mathlib.Core.Path.{sym}
-use Rattle.levels.specs.Levels.{allowed_none, allowed_most}
+use Rattle.std.proofs.Common.{arith}
+use Rattle.std.proofs.lemmas.Grind.{common_steps}
+use Rattle.levels.specs.Levels.{allowed}
 use Rattle.levels.proofs.allowed.Goals as goal
 
-pub returns-then-ticks-eq0 : goal.returns-then-ticks-eq0
-returns-then-ticks-eq0 c = sym (allowed_none _ c.if-ticks-eq0.true)
-
 pub returns : goal.returns
-returns c = allowed_most _ c.if-ticks-eq0.false
+unfolding allowed
+returns c = grind (arith, common_steps)

@@ -1,26 +1,27 @@
 -- `listing::put_asked` meets its contract: a name, a space and k, each written where the one before it ended. Assumes nothing.
 use mathlib.Core.List.{[], ◌∷◌}
-use Rattle.lists.specs.Written.{first_fits, second_fits, third_fits, written_three}
+use Rattle.printing.specs.Names.{name_of}
 use Rattle.listing.specs.Text.{decimal}
-use Rattle.listing.specs.Listing.{space, name_of, line_for}
+use Rattle.listing.specs.Listing.{space, line_for}
+use Rattle.listing.proofs.PageLaws.{first_room, second_room, third_room, put_three}
 use Rattle.listing.proofs.put_asked.Goals as goal
 
-pub put_name-next-requires : goal.put_name-next-requires
+pub put-requires : goal.put-requires
 unfolding line_for
-put_name-next-requires c =
-    first_fits (name_of c.args.schedule) (space ∷ decimal c.args.k) c.args.text.now c.args.at c.requires
+put-requires c =
+    rw c.schedule_name.ensures (first_room (name_of c.args.schedule) (space ∷ decimal c.args.k) c.args.page.now c.requires)
 
-pub put-then-requires : goal.put-then-requires
+pub put-requires-2 : goal.put-requires-2
 unfolding line_for
-put-then-requires c =
-    second_fits (name_of c.args.schedule) (space ∷ []) (decimal c.args.k) c.args.text.now c.args.at _ _ c.put_name-next.ensures c.requires
+put-requires-2 c =
+    second_room (name_of c.args.schedule) (space ∷ []) (decimal c.args.k) c.args.page.now c.put.new.self (rw c.schedule_name.ensures at c.put.ensures) c.requires
 
 pub put_decimal-requires : goal.put_decimal-requires
 unfolding line_for
 put_decimal-requires c =
-    third_fits (name_of c.args.schedule) (space ∷ []) (decimal c.args.k) c.args.text.now c.args.at _ _ c.put_name-next.ensures _ _ c.put-then.ensures c.requires
+    third_room (name_of c.args.schedule) (space ∷ []) (decimal c.args.k) c.args.page.now c.put.new.self (rw c.schedule_name.ensures at c.put.ensures) c.put-2.new.self c.put-2.ensures c.requires
 
 pub returns : goal.returns
 unfolding line_for
 returns c =
-    written_three (name_of c.args.schedule) (space ∷ []) (decimal c.args.k) c.args.text.now c.args.at _ _ c.put_name-next.ensures _ _ c.put-then.ensures _ _ c.put_decimal.ensures
+    put_three (name_of c.args.schedule) (space ∷ []) (decimal c.args.k) c.args.page.now c.put.new.self (rw c.schedule_name.ensures at c.put.ensures) c.put-2.new.self c.put-2.ensures _ c.put_decimal.ensures

@@ -1,20 +1,20 @@
 -- `listing::put_total` meets its contract: two pieces, the second written where the first ended. Assumes nothing.
-use Rattle.lists.specs.Written.{first_fits, next_fits, written_both}
-use Rattle.listing.specs.Text.{bytes}
+use Rattle.printing.specs.Names.{bytes}
 use Rattle.listing.specs.Listing.{line_feed, field, total_line}
+use Rattle.listing.proofs.PageLaws.{first_room, next_room, put_both}
 use Rattle.listing.proofs.put_total.Goals as goal
 
-pub put-next-requires : goal.put-next-requires
+pub put-requires : goal.put-requires
 unfolding total_line bytes
-put-next-requires c =
-    first_fits (bytes "total ") (field c.args.hashes line_feed) c.args.text.now c.args.at c.requires
+put-requires c =
+    first_room (bytes "total ") (field c.args.hashes line_feed) c.args.page.now c.requires
 
 pub put_field-requires : goal.put_field-requires
 unfolding total_line bytes
 put_field-requires c =
-    next_fits (bytes "total ") (field c.args.hashes line_feed) c.args.text.now c.args.at _ _ c.put-next.ensures c.requires
+    next_room (bytes "total ") (field c.args.hashes line_feed) c.args.page.now _ c.put.ensures c.requires
 
 pub returns : goal.returns
 unfolding total_line bytes
 returns c =
-    written_both (bytes "total ") (field c.args.hashes line_feed) c.args.text.now c.args.at _ _ c.put-next.ensures _ _ c.put_field.ensures
+    put_both (bytes "total ") (field c.args.hashes line_feed) c.args.page.now _ c.put.ensures _ c.put_field.ensures

@@ -1,31 +1,22 @@
--- `listing::reads` meets its contract. The loop's invariant: the bytes passed are the line's, so what is left decides. Assumes nothing.
-use mathlib.Core.Path.{refl, sym, ◌∙◌}
+-- `listing::reads` meets its contract, by what stands behind the line. Assumes nothing.
+use mathlib.Core.Path.{sym}
 use native.Mathlib.Omega.{arith}
-use borrow.Author.Rules.{rules}
-use Rattle.listing.proofs.ReadLaws.{reads_short, reads_next, reads_other, reads_all, reads_on}
+use Rattle.std.specs.Prelude.{Some, None}
+use Rattle.std.proofs.lemmas.Bool.Decides.{Decides-eqb}
+use Rattle.std.proofs.lemmas.Slice.Eq.{strip_prefix_is}
+use Rattle.listing.proofs.ReadLaws.{reads_other, reads_all, reads_on}
 use Rattle.listing.proofs.reads.Goals as goal
 
-pub returns-then-input-line : goal.returns-then-input-line
-returns-then-input-line c = sym (reads_short _ _ c.if-input-line.true)
+pub returns-in-None : goal.returns-in-None
+returns-in-None c =
+    sym (reads_other c.args.line.now c.args.input.now (strip_prefix_is Decides-eqb c.args.input.now c.args.line.now None c.in-None.ensures.cases))
 
-pub loop-i-init : goal.loop-i-init
-loop-i-init c = (omega arith, omega arith, refl)
+pub returns-in-Some-empty : goal.returns-in-Some-empty
+returns-in-Some-empty c =
+    let rest = c.in-Some-empty.field-0 in
+    sym (reads_all c.args.line.now c.args.input.now rest.now (strip_prefix_is Decides-eqb c.args.input.now c.args.line.now (Some rest) c.in-Some-empty.ensures.cases) (omega arith))
 
-pub returns-then-line-i : goal.returns-then-line-i
-returns-then-line-i c =
-    sym (c.loop-i.invariant.2 ∙ reads_other _ _ c.loop-i.i (search rules) (search rules) c.if-line-i.true)
-
-pub loop-i-preserved : goal.loop-i-preserved
-loop-i-preserved c =
-    (search rules, c.loop-i.invariant.1, c.loop-i.invariant.2 ∙ reads_next _ _ c.loop-i.i (search rules) (search rules) c.if-line-i.false)
-
-pub returns-then-end-input : goal.returns-then-end-input
-returns-then-end-input c =
-    sym (c.loop-i.invariant.2 ∙ reads_all _ _ c.loop-i.i (omega arith) (omega arith))
-
-pub bounds-input-end : goal.bounds-input-end
-bounds-input-end c = omega arith
-
-pub returns : goal.returns
-returns c =
-    sym (c.loop-i.invariant.2 ∙ reads_on _ _ c.loop-i.i (omega arith) (omega arith))
+pub returns-in-Some-len1-up : goal.returns-in-Some-len1-up
+returns-in-Some-len1-up c =
+    let rest = c.in-Some-len1-up.field-0 in
+    sym (reads_on c.args.line.now c.args.input.now rest.now (strip_prefix_is Decides-eqb c.args.input.now c.args.line.now (Some rest) c.in-Some-len1-up.ensures.cases) (omega arith))

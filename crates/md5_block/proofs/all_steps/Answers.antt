@@ -1,7 +1,19 @@
--- `md5_block::all_steps` meets its contract: four runs of 16 join. Assumes nothing.
-use Rattle.md5_block.proofs.Steps.{four_runs}
+-- `md5_block::all_steps` meets its contract. The loop's invariant: before a round, sixteen steps are done for each round before it.
+-- Assumes nothing.
+use Rattle.std.proofs.Common.{◌≡◌, refl, arith}
+use Rattle.md5_block.specs.Md5.{steps_from}
+use Rattle.md5_block.proofs.Steps.{one_round_more}
 use Rattle.md5_block.proofs.all_steps.Goals as goal
+
+pub loop-round-init : goal.loop-round-init
+unfolding steps_from
+loop-round-init c = refl
+
+pub loop-round-preserved : goal.loop-round-preserved
+loop-round-preserved c =
+    one_round_more c.args.x.now c.args.first c.loop-round.round c.loop-round.invariant c.sixteen-t.ensures
 
 pub returns : goal.returns
 returns c =
-    four_runs c.args.x.now c.args.s 0 16 c.sixteen-s1.ensures c.sixteen-s2.ensures c.sixteen-s3.ensures c.sixteen.ensures
+    let e : c.loop-round.round ≡ 4 = omega arith in
+    rw e at c.loop-round.invariant

@@ -6,4 +6,4 @@ use Rattle.md5_block.proofs.four.Goals as goal
 pub returns : goal.returns
 unfolding steps_from
 returns c =
-    four_runs c.args.x.now c.args.s c.args.i 1 c.stepped-s1.ensures c.stepped-s2.ensures c.stepped-s3.ensures c.stepped.ensures
+    four_runs c.args.x.now c.args.s c.args.i 1 c.stepped-s.ensures c.stepped-s-2.ensures c.stepped-s-3.ensures c.stepped.ensures

@@ -8,12 +8,12 @@ use Rattle.offers.proofs.element.Goals as goal
 pub slice_bounds-value-end : goal.slice_bounds-value-end
 slice_bounds-value-end c = omega (arith, width_small (record { function = 0 }))
 
-pub slice_bounds-apply-end : goal.slice_bounds-apply-end
-slice_bounds-apply-end c = sym (length-take-le c.width-w.result c.loop-i.value (omega (arith, width_small (record { function = 0 }))))
+pub slice_bounds-walk-end : goal.slice_bounds-walk-end
+slice_bounds-walk-end c = sym (length-take-le c.width-w.result _ (omega (arith, width_small (record { function = 0 }))))
 
-pub apply-requires : goal.apply-requires
+pub walk-requires : goal.walk-requires
 unfolding known
-apply-requires c = record {
+walk-requires c = record {
   known_function = tt;
-  whole_value = length-take-le c.width-w.result c.loop-i.value (omega (arith, width_small (record { function = 0 }))) ∙ c.width-w.ensures;
+  whole_value = length-take-le c.width-w.result _ (omega (arith, width_small (record { function = 0 }))) ∙ c.width-w.ensures;
 }

@@ -1,28 +1,23 @@
 -- `oneway::apply` meets its contract: the value is taken out, hashed and put back. Assumes nothing.
-use mathlib.Core.Path.{ap, ◌∙◌}
+use mathlib.Core.Path.{◌≡◌, ap, ◌∙◌}
 use Rattle.oneway.specs.Step.{width, digest, step_by}
 use Rattle.oneway.proofs.Laws.{step_0, step_1}
+use Rattle.oneway.proofs.apply.Goals.{then-chain-eq0, else-chain-eq0}
 use Rattle.oneway.proofs.apply.Goals as goal
 
-pub taken-v-requires : goal.taken-v-requires
+pub unwrap-v-requires : goal.unwrap-v-requires
 unfolding width
-taken-v-requires c = c.requires.whole_value
+unwrap-v-requires c = c.as_array.ensures.variant.1 c.requires.whole_value
 
-pub put-requires : goal.put-requires
-unfolding width
-put-requires c = c.requires.whole_value
-
-pub put-requires-else-chain-eq0 : goal.put-requires-else-chain-eq0
-unfolding width
-put-requires-else-chain-eq0 c = c.requires.whole_value
-
-pub returns-then-chain-eq0 : goal.returns-then-chain-eq0
-returns-then-chain-eq0 c =
-    step_0 c.args.chain c.args.value.now c.if-chain-eq0.true
-    (c.put.ensures ∙ c.md5_of.ensures ∙ ap digest c.taken-v.ensures)
-
-pub returns-else-chain-eq0 : goal.returns-else-chain-eq0
+pub returns : goal.returns
 unfolding step_by
-returns-else-chain-eq0 c =
-    step_1 c.args.chain c.args.value.now c.requires.known_function c.if-chain-eq0.false
-    (c.put-else-chain-eq0.ensures ∙ c.aes_of.ensures ∙ ap (step_by 1) c.taken-v.ensures)
+returns c =
+    let r = c.args in
+    let m = rw c.unwrap-v.ensures at c.as_array.ensures.cases in
+    let e : c.unwrap-v.result.now ≡ r.value.now = m.same in
+    c.copy_from_slice.ensures.after
+    ∙ elim c.if-chain-eq0.branch [
+      | then-chain-eq0 w ↦ step_0 r.chain r.value.now w.if-chain-eq0.true (w.next-is ∙ w.md5_of-next.ensures ∙ ap digest e)
+      | else-chain-eq0 w ↦
+          step_1 r.chain r.value.now c.requires.known_function w.if-chain-eq0.false (w.next-is ∙ w.aes_of-next.ensures ∙ ap (step_by 1) e)
+    ]

@@ -4,4 +4,4 @@ use Rattle.oneway.proofs.md5_of.Goals as goal
 
 pub returns : goal.returns
 returns c =
-    digest_is c.args.value c.padding-message.ensures c.block-s.ensures c.low_byte_first.ensures
+    digest_is c.args.value c.padding.ensures c.block.ensures c.low_byte_first.ensures

@@ -3,8 +3,15 @@
 use mathlib.Core.Path.{refl, sym}
 use native.Mathlib.Omega.{arith}
 use lib.Seq.{length-take-le}
-use Rattle.pebbling.proofs.PositionLaws.{refused_k, refused_schedule, refused_zero, refused_late, listed_none, round_asked, aside_asked, few, refused_length, copy_asked, listed_all}
+use Rattle.pebbling.proofs.PositionLaws.{refused_k, refused_schedule, refused_zero, refused_late, listed_none, round_asked, aside_asked, few, refused_length, listed_all}
+use Prim.Native.Nat.{◌≤◌}
 use Rattle.pebbling.proofs.positions.Goals as goal
+use Rattle.pebbling.proofs.positions.Goals.{After-list_all-listed}
+
+-- there is room aside for the positions listed
+few_listed : (c : After-list_all-listed) → c.list_all-listed.result.end ≤ 38
+few_listed c =
+    few _ _ _ c.args.list.now c.if-k-gt20.false c.if-schedule-gt3.false c.if-round-eq0.false _ c.power-end.ensures c.if-end-round.false c.if-round-end.false _ _ _ _ refl c.list_all-listed.ensures
 
 pub returns-then-k-gt20 : goal.returns-then-k-gt20
 returns-then-k-gt20 c = refused_k _ _ _ _ c.if-k-gt20.true
@@ -37,23 +44,15 @@ returns-then-list-entries c =
 
 pub slice_bounds-aside-end : goal.slice_bounds-aside-end
 slice_bounds-aside-end c =
-    let list = c.args.list.now in
-    omega (arith, few _ _ _ list c.if-k-gt20.false c.if-schedule-gt3.false c.if-round-eq0.false _ c.power-end.ensures c.if-end-round.false c.if-round-end.false _ _ _ _ refl c.list_all-listed.ensures, c.list_all-listed.auto.list)
+    omega (arith, few_listed (goal.at.slice_bounds-aside-end c).After-list_all-listed, c.list_all-listed.auto.list)
 
 pub slice_bounds-copy-end : goal.slice_bounds-copy-end
 slice_bounds-copy-end c =
-    let list = c.args.list.now in
-    sym (length-take-le _ _ (omega (arith, few _ _ _ list c.if-k-gt20.false c.if-schedule-gt3.false c.if-round-eq0.false _ c.power-end.ensures c.if-end-round.false c.if-round-end.false _ _ _ _ refl c.list_all-listed.ensures, c.list_all-listed.auto.list)))
-
-pub copy-requires : goal.copy-requires
-copy-requires c =
-    let list = c.args.list.now in
-    copy_asked _ _ _ list c.if-k-gt20.false c.if-schedule-gt3.false c.if-round-eq0.false _ c.power-end.ensures c.if-end-round.false c.if-round-end.false _ _ _ _ refl c.list_all-listed.ensures c.if-list-entries.false
+    sym (length-take-le _ _ (omega (arith, few_listed (goal.at.slice_bounds-copy-end c).After-list_all-listed, c.list_all-listed.auto.list)))
 
 pub overflow_cast-count : goal.overflow_cast-count
 overflow_cast-count c =
-    let list = c.args.list.now in
-    omega (arith, few _ _ _ list c.if-k-gt20.false c.if-schedule-gt3.false c.if-round-eq0.false _ c.power-end.ensures c.if-end-round.false c.if-round-end.false _ _ _ _ refl c.list_all-listed.ensures)
+    omega (arith, few_listed (goal.at.overflow_cast-count c).After-list_all-listed)
 
 pub returns : goal.returns
 returns c =

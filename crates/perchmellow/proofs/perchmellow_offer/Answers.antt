@@ -3,4 +3,4 @@ use Rattle.perchmellow.specs.Fits.{offer_fits}
 use Rattle.perchmellow.proofs.perchmellow_offer.Goals as goal
 
 pub offer_word-requires : goal.offer_word-requires
-offer_word-requires c = offer_fits _ _ _ _ _ c.offer-answer.ensures
+offer_word-requires c = offer_fits _ _ _ _ _ c.offer.ensures

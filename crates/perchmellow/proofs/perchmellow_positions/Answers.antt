@@ -3,4 +3,4 @@ use Rattle.perchmellow.specs.Fits.{positions_fit}
 use Rattle.perchmellow.proofs.perchmellow_positions.Goals as goal
 
 pub positions_word-requires : goal.positions_word-requires
-positions_word-requires c = positions_fit _ _ _ _ _ _ c.positions-answer.ensures
+positions_word-requires c = positions_fit _ _ _ _ _ _ c.positions.ensures

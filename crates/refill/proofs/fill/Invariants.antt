@@ -5,6 +5,3 @@ use Rattle.refill.proofs.fill.Given as goal
 
 abbrev pub invariant-loop-i : goal.invariant-loop-i
 invariant-loop-i l = Filling l.chain l.initial.value l.positions l.initial.slots l.w l.i l.at l.value l.slots
-
-abbrev pub decreases-loop-i : goal.decreases-loop-i
-decreases-loop-i l = l.i

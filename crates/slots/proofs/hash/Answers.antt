@@ -1,10 +1,9 @@
--- `slots::hash` meets its contract. The loop's invariant: `applied` hashes are done on the values, which stand from `newest` on, and nothing behind them is
--- touched. `open` makes the room and f is applied in place, which together is one hash. Assumes nothing.
-use mathlib.Core.Path.{◌≡◌, ◌∙◌}
+-- `slots::hash` meets its contract. The loop's invariant: as many hashes as turns are done on the values, which stand from `newest` on, and nothing behind
+-- them is touched. `open` makes the room and f is applied in place, which together is one hash. Assumes nothing.
+use mathlib.Core.Path.{◌≡◌, refl, ◌∙◌}
 use Prim.Native.Nat.{◌+◌, ◌-◌, ◌≤◌}
 use native.Mathlib.Omega.{arith}
 use lib.ListN.{length}
-use lib.Pow.{pow_mono}
 use Rattle.lists.specs.Parts.{part_length}
 use Rattle.slots.specs.Hashing.{Hashing}
 use Rattle.slots.proofs.Growing.{hash_none, hash_all, hash_opens, hash_lent, hash_next}
@@ -19,22 +18,18 @@ asked c = rw c.width-w.ensures c.requires.hashing
 lent : (c : After-open-to) → c.open-to.result + c.width-w.result ≤ length c.open-to.new.new
 lent c =
     let a : Hashing c.width-w.result c.args.k c.args.h c.args.n c.args.at c.args.new.now = rw c.width-w.ensures c.requires.hashing in
-    hash_lent a c.loop-applied.invariant c.loop-applied-test.true c.open-to.ensures c.open-to.auto.new
+    hash_lent a c.loop.invariant.1 (omega (arith, c.loop-test.true)) c.open-to.ensures c.open-to.auto.new
 
-pub loop-applied-init : goal.loop-applied-init
-loop-applied-init c = hash_none (asked (goal.at.loop-applied-init c).After-width-w)
-
-pub overflow_add-h : goal.overflow_add-h
-overflow_add-h c =
-    omega (arith, c.requires.hashing.more, pow_mono {i = c.args.k} {j = 20} c.requires.hashing.small)
+pub loop-init : goal.loop-init
+loop-init c = (refl, hash_none (asked (goal.at.loop-init c).After-width-w))
 
 pub open-to-requires : goal.open-to-requires
 open-to-requires c =
-    hash_opens (asked (goal.at.open-to-requires c).After-width-w) c.loop-applied.invariant c.loop-applied-test.true
+    hash_opens (asked (goal.at.open-to-requires c).After-width-w) c.loop.invariant.1 (omega (arith, c.loop-test.true))
 
 pub overflow_add-end : goal.overflow_add-end
 overflow_add-end c =
-    omega (arith, lent (goal.at.overflow_add-end c).After-open-to, c.open-to.auto.new, c.loop-applied.invariant.sized, c.well_formed)
+    omega (arith, lent (goal.at.overflow_add-end c).After-open-to, c.open-to.auto.new, c.loop.invariant.1.sized, c.well_formed)
 
 pub slice_bounds-apply-end : goal.slice_bounds-apply-end
 slice_bounds-apply-end c = lent (goal.at.slice_bounds-apply-end c).After-open-to
@@ -45,22 +40,17 @@ apply-requires c =
     let e = part_length c.open-to.result (c.open-to.result + w) c.open-to.new.new (omega arith) (lent (goal.at.apply-requires c).After-open-to) in
     record { known_function = c.requires.known_function; whole_value = e ∙ omega (arith, c.width-w.ensures) }
 
-pub overflow_add-applied : goal.overflow_add-applied
-overflow_add-applied c =
-    omega (arith, c.requires.hashing.more, pow_mono {i = c.args.k} {j = 20} c.requires.hashing.small)
-
-pub loop-applied-preserved : goal.loop-applied-preserved
-loop-applied-preserved c =
+pub loop-preserved : goal.loop-preserved
+loop-preserved c =
     let to = c.open-to.result in
     let w = c.width-w.result in
     let opened = c.open-to.new.new in
-    let u : to + w - to ≡ w = omega arith in
-    hash_next (asked (goal.at.loop-applied-preserved c).After-width-w) c.loop-applied.invariant c.loop-applied-test.true c.open-to.ensures c.open-to.auto.new
-    (c.apply.auto.value ∙ part_length to (to + w) opened (omega arith) (lent (goal.at.loop-applied-preserved c).After-open-to) ∙ u) c.apply.ensures
-
-pub shape_of-new : goal.shape_of-new
-shape_of-new c = c.loop-applied.invariant.sized
+    let u : to + w - to ≡ w = omega arith in (
+      omega arith,
+      hash_next (asked (goal.at.loop-preserved c).After-width-w) c.loop.invariant.1 (omega (arith, c.loop-test.true)) c.open-to.ensures c.open-to.auto.new
+          (c.apply.auto.value ∙ part_length to (to + w) opened (omega arith) (lent (goal.at.loop-preserved c).After-open-to) ∙ u) c.apply.ensures,
+    )
 
 pub returns : goal.returns
 returns c =
-    rw (← c.width-w.ensures) (hash_all (asked (goal.at.returns c).After-width-w) c.loop-applied.invariant c.loop-applied-test.false)
+    rw (← c.width-w.ensures) (hash_all (asked (goal.at.returns c).After-width-w) c.loop.invariant.1 (omega (arith, c.loop-test.false)))

@@ -1,15 +1,13 @@
--- `card::layout::zeros` meets its contract. The loop's invariant: all bytes are zero just where what was seen so far is, and the rest are.
--- Assumes nothing.
-use mathlib.Core.Path.{refl}
-use native.Mathlib.Omega.{arith}
-use Rattle.card.proofs.ReadLaws.{looking_next, looked}
+-- `card::layout::zeros` meets its contract. Assumes nothing.
+use Rattle.std.proofs.Common.{◌≡◌, bit_or, rules, tests}
+use Rattle.std.specs.List.{fold}
+use Rattle.std.proofs.lemmas.Iterator.{YieldsList-from_slice}
+use Rattle.std.proofs.lemmas.Iterator.Consumers.{fold_from_yields_List}
+use Rattle.card.proofs.ReadLaws.{all_seen}
 use Rattle.card.proofs.layout.zeros.Goals as goal
 
-pub loop-i-init : goal.loop-i-init
-loop-i-init c = record { within = omega arith; holds = refl }
-
-pub loop-i-preserved : goal.loop-i-preserved
-loop-i-preserved c = looking_next _ _ _ c.loop-i-test.true c.loop-i.invariant
-
 pub returns : goal.returns
-returns c = looked _ _ _ c.loop-i-test.false c.loop-i.invariant
+returns c =
+    let e : c.fold.result ≡ fold bit_or 0 c.args.bytes.now =
+    fold_from_yields_List _ bit_or 0 _ c.fold.ensures.ran (YieldsList-from_slice c.args.bytes.now cc) (λ a x b q k. search (rules, tests)) in
+    rw e (all_seen 0 c.args.bytes.now)

@@ -1,23 +1,28 @@
 -- `listing::rounds::put_positions` meets its contract. The loop's invariant: what is still to be written makes the text that was promised.
 -- Assumes nothing.
+use mathlib.Core.Path.{refl, ◌∙◌}
 use native.Mathlib.Omega.{arith}
-use borrow.Author.Rules.{rules}
-use Rattle.listing.proofs.LineLaws.{left_all, left_room, left_next, left_none, left_length}
+use Rattle.listing.proofs.LineLaws.{no_positions, left_room, left_next, last_room, last_says}
 use Rattle.listing.proofs.rounds.put_positions.Goals as goal
 
-pub loop-i-init : goal.loop-i-init
-loop-i-init c = left_all _ _ _
+pub returns-in_default : goal.returns-in_default
+returns-in_default c = record { wrote = no_positions _ _ _ c.in_default.ensures.cases; lent = refl }
 
-pub put_field-next-requires : goal.put_field-next-requires
-put_field-next-requires c =
-    left_room c.args.list.now c.args.at c.args.text.now _ _ _ c.loop-i.invariant c.requires (search rules) _ c.mark_before-mark.ensures
+pub put_field-requires : goal.put_field-requires
+put_field-requires c =
+    left_room _ _ c.args.page.now.at c.args.page.now.text.now _ _ _ c.loop-position.invariant.0 c.loop-position-test.true (rw c.in-Some.ensures.cases.0 at c.requires)
 
-pub loop-i-preserved : goal.loop-i-preserved
-loop-i-preserved c =
-    left_next c.args.list.now c.args.at c.args.text.now _ _ _ c.loop-i.invariant (search rules) _ c.mark_before-mark.ensures _ _ c.put_field-next.ensures
+pub loop-position-preserved : goal.loop-position-preserved
+loop-position-preserved c =
+    (left_next _ _ c.args.page.now.at c.args.page.now.text.now _ _ _ c.loop-position.invariant.0 c.loop-position-test.true _ _ c.put_field.ensures.wrote, c.put_field.ensures.lent ∙ c.loop-position.invariant.1)
 
-pub shape_of-text : goal.shape_of-text
-shape_of-text c = left_length _ _ _ _ _ _ c.loop-i.invariant
+pub put_field-requires-2 : goal.put_field-requires-2
+put_field-requires-2 c =
+    last_room _ _ c.args.page.now.at c.args.page.now.text.now _ _ _ c.loop-position.invariant.0 (omega arith) (rw c.in-Some.ensures.cases.0 at c.requires)
 
 pub returns : goal.returns
-returns c = left_none _ _ _ _ _ _ c.loop-i.invariant (omega arith)
+returns c =
+    record {
+      wrote = rw c.in-Some.ensures.cases.0 (last_says _ _ c.args.page.now.at c.args.page.now.text.now _ _ _ c.loop-position.invariant.0 (omega arith) _ _ c.put_field-2.ensures.wrote);
+      lent = c.put_field-2.ensures.lent ∙ c.loop-position.invariant.1;
+    }

@@ -14,12 +14,6 @@ asked c =
 pub returns-then-r-whole : goal.returns-then-r-whole
 returns-then-r-whole c = done_at_end _ _ _ _ c.requires.0 c.power-whole.ensures c.if-r-whole.true
 
-pub speed2_done-requires : goal.speed2_done-requires
-speed2_done-requires c = asked (goal.at.speed2_done-requires c).Else-r-whole
-
-pub optimal_done-requires : goal.optimal_done-requires
-optimal_done-requires c = asked (goal.at.optimal_done-requires c).Else-r-whole
-
 pub returns-in-0 : goal.returns-in-0
 returns-in-0 c = done_0 _ _ _ (asked (goal.at.returns-in-0 c).Else-r-whole).3 c.in-0.is
 

@@ -5,7 +5,6 @@ use Prim.Native.Nat.{suc, ◌-◌}
 use native.Mathlib.Omega.{arith}
 use Rattle.pebbling.proofs.HeldLaws.{level, aside_late_asks, aside_late, aside_last, aside_both_asks, aside_both}
 use Rattle.pebbling.proofs.held.+held_count_aside.Goals as goal
-use Rattle.pebbling.proofs.held.+held_count_aside.Goals.{Start}
 
 pub held_count_aside-requires : goal.held_count_aside-requires
 held_count_aside-requires t c =

@@ -1,5 +1,4 @@
 -- `held::held_count` meets its contract. Assumes nothing.
-use native.Mathlib.Omega.{arith}
 use Rattle.pebbling.proofs.HeldLaws.{held_asks, held_children, held_itself}
 use Rattle.pebbling.proofs.held.held_count.Goals as goal
 
@@ -10,10 +9,6 @@ held_count_aside-requires c =
 pub returns-then-whole-r : goal.returns-then-whole-r
 returns-then-whole-r c =
     held_children _ _ _ c.requires.0 c.requires.1 c.requires.2 c.requires.3 _ c.power-whole.ensures c.if-whole-r.true _ c.held_count_aside.ensures
-
-pub hashes_done-requires : goal.hashes_done-requires
-hashes_done-requires c =
-    (c.requires.0, c.requires.1, c.requires.2, omega (arith, c.if-whole-r.false, c.power-whole.ensures.is))
 
 pub returns : goal.returns
 returns c =

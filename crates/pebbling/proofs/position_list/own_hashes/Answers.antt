@@ -1,5 +1,4 @@
 -- `position_list::own_hashes` meets its contract: up to round 2^k P_k alone runs, and in round 2^k it does not hash. Assumes nothing.
-use Rattle.pebbling.specs.Len.{not-zero}
 use Rattle.pebbling.specs.Recursion.{schedule}
 use Rattle.pebbling.proofs.HashLaws.{before_end}
 use Rattle.pebbling.proofs.ListLaws.{own_works_out, own_works}
@@ -7,11 +6,6 @@ use Rattle.pebbling.proofs.position_list.own_hashes.Goals as goal
 
 pub returns-then-r-power : goal.returns-then-r-power
 returns-then-r-power c = own_works_out (schedule c.args.schedule) _ _ _ c.power.ensures c.if-r-power.true
-
-pub hashes_in-requires : goal.hashes_in-requires
-hashes_in-requires c =
-    let l = before_end _ _ _ c.requires.3 c.power.ensures c.if-r-power.false in
-    (c.requires.0, not-zero _ _ c.requires.2 l, c.requires.1, l)
 
 pub returns : goal.returns
 returns c =

@@ -1,7 +1,0 @@
--- `enrol_word` meets its contract. Assumes nothing.
-use mathlib.Core.Path.{sym, ap, ◌∙◌}
-use Rattle.perchmellow.specs.Word.{enrol_word}
-use Rattle.perchmellow.proofs.enrol_word.Goals as goal
-
-pub returns-in-Refused : goal.returns-in-Refused
-returns-in-Refused c = c.refused.ensures ∙ sym (ap enrol_word c.in-Refused.is)

@@ -1,7 +1,0 @@
--- `settle_word` meets its contract. Assumes nothing.
-use mathlib.Core.Path.{sym, ap, ◌∙◌}
-use Rattle.perchmellow.specs.Word.{settle_word}
-use Rattle.perchmellow.proofs.settle_word.Goals as goal
-
-pub returns-in-Refused : goal.returns-in-Refused
-returns-in-Refused c = c.refused.ensures ∙ sym (ap settle_word c.in-Refused.is)
