@@ -79,7 +79,7 @@ pub fn apply(chain: Chain, value: &mut [u8])
     ensures { value.new ≡ step chain value.old }
 {
     let v = *value.as_array().unwrap();
-    // A test and no table of functions: there are two, and a call through a table is not inlined.
+    // A test and no table of functions: there are two of them.
     let next = if chain.function == 0 {
         md5_of(v)
     } else {

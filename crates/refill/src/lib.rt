@@ -33,7 +33,7 @@ fn fill(chain: Chain, positions: &[u32], value: &mut [u8], slots: &mut [u8]) -> 
 {
     let w = oneway::width(chain);
     let mut at: u32 = 0;
-    // An index: over `iter().enumerate().rev()` the invariant has the iterator and no i to speak of, and its proof did not close.
+    // An index: over `iter().enumerate().rev()` the invariant has the iterator and no i to speak of.
     for i in (0..positions.len()).rev() {
         at = climb(chain, at, positions[i], value);
         records::put(value, i * w, slots);
