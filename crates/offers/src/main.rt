@@ -5,7 +5,7 @@
 ghost use Rattle.std.specs.Prelude.{◌≡◌, length};
 
 use oneway::Chain;
-use printing::print_hex;
+use printing::{print_hex, print_number};
 use refusals::Refusal;
 use std::io;
 
@@ -23,8 +23,8 @@ fn element(n: u32) -> [u8; 16]
 }
 
 fn refused(rt: &impl Print, refusal: Refusal) -> io::Result<()> {
-    let number = refusals::number(refusal);
-    println!(rt; "{number}")
+    print_number(rt, refusals::number(refusal))?;
+    println!(rt)
 }
 
 // One offer of bytes with a gap limit, and what is said.

@@ -13,7 +13,7 @@ pub fn print(rt: &impl Print, text: &[u8]) -> io::Result<()> {
     rt.write_all(text)
 }
 
-// A number alone: it stays for who prints by functions, though the programs print theirs within a format.
+// A number by itself: the test programs print a refusal's number and a tally so, and other numbers within a format.
 pub fn print_number(rt: &impl Print, n: u32) -> io::Result<()> {
     rt.print(n)
 }

@@ -7,7 +7,7 @@
 
 use card::Outcome;
 use pebbling::RoundNumber;
-use printing::print_schedule;
+use printing::{print_number, print_schedule};
 use refusals::Refusal;
 use std::io;
 
@@ -45,8 +45,8 @@ struct Ride {
 }
 
 fn says(rt: &impl Print, who: &str, why: Refusal) -> io::Result<()> {
-    let number = refusals::number(why);
-    print!(rt; ", {who} says {number}")
+    print!(rt; ", {who} says ")?;
+    print_number(rt, refusals::number(why))
 }
 
 // Something was refused: the ride does not go on.

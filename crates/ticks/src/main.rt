@@ -4,7 +4,7 @@
 
 use card::Outcome;
 use oneway::Chain;
-use printing::{print_hex, print_schedule};
+use printing::{print_hex, print_number, print_schedule};
 use std::io;
 
 const SEED: [u8; 16] = *b"perchmellow seed";
@@ -38,8 +38,9 @@ fn run_round(
             Ok(hashes)
         }
         Err(refusal) => {
-            let number = refusals::number(refusal);
-            println!(rt; "refused {number}")?;
+            print!(rt; "refused ")?;
+            print_number(rt, refusals::number(refusal))?;
+            println!(rt)?;
             Ok(0)
         }
     }

@@ -4,7 +4,7 @@
 
 ghost use Rattle.std.specs.Prelude.{◌<◌, ◌≤◌, length};
 
-use printing::{print, print_hex};
+use printing::{print, print_hex, print_number};
 use std::io;
 
 // How many examples agreed, of how many.
@@ -179,5 +179,8 @@ fn main(rt: HostRuntime) -> io::Result<()> {
     let mut tally = Tally::default();
     rfc_1321(&rt, &mut tally)?;
     fips_197(&rt, &mut tally)?;
-    println!(rt; "{} of {} agree", tally.agreed, tally.run)
+    print_number(&rt, tally.agreed)?;
+    print!(rt; " of ")?;
+    print_number(&rt, tally.run)?;
+    println!(rt; " agree")
 }
