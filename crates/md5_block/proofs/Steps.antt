@@ -98,13 +98,14 @@ four_runs x s i m {s₁} {s₂} {s₃} {r} e₁ e₂ e₃ e₄ =
     ∙ goes_on x s i m (m + (m + m)) e₁
     ∙ ap (steps_from x s i) n
 
--- the rounds before number `round` and that one
-pub one_round_more : (x s : List ℕ) (round : ℕ) {t r : List ℕ}
+-- the rounds before number `round` and that one, which begins with step i
+pub one_round_more : (x s : List ℕ) (round : ℕ) {t r : List ℕ} {i : ℕ}
     → t ≡ steps_from x s 0 (16 * round)
-    → r ≡ steps_from x t (16 * round) 16
+    → r ≡ steps_from x t i 16
+    → i ≡ 16 * round
     → r ≡ steps_from x s 0 (16 * (round + 1))
-one_round_more x s round {t} {r} e f =
-    let p : 16 * round ≡ 0 + 16 * round = omega arith in
+one_round_more x s round {t} {r} {i} e f q =
+    let p : i ≡ 0 + 16 * round = omega arith in
     let n : 16 * round + 16 ≡ 16 * (round + 1) = omega arith in
     f ∙ ap (λ (j : ℕ). steps_from x t j 16) p ∙ goes_on x s 0 (16 * round) 16 e ∙ ap (steps_from x s 0) n
 

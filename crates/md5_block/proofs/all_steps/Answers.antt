@@ -11,7 +11,7 @@ loop-round-init c = refl
 
 pub loop-round-preserved : goal.loop-round-preserved
 loop-round-preserved c =
-    one_round_more c.args.x.now c.args.first c.loop-round.round c.loop-round.invariant c.sixteen-t.ensures
+    one_round_more c.args.x.now c.args.first c.loop-round.round c.loop-round.invariant c.sixteen-t.ensures (omega arith)
 
 pub returns : goal.returns
 returns c =
