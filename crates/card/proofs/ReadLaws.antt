@@ -74,7 +74,7 @@ held_none head p known q t =
 
 -- ---- put
 
-head_length : (head : Head) → length (head_bytes head) ≡ 16
+pub head_length : (head : Head) → length (head_bytes head) ≡ 16
 unfolding head_bytes
 head_length head = refl
 

@@ -46,7 +46,7 @@ module _ (s k : ℕ) (page₀ : Page) (scheduled : s ≤ 3) (small : k ≤ 10) w
       ran_end = omega (arith, ran.wrote.wrote.ends, lines_short s k scheduled small (round - 1) (omega (arith, ran.from, ran.upto)), ran.upto, ran.from, most)
 
       module _ (less : round < stop) where
-        is_round : Round s k round
+        pub is_round : Round s k round
         is_round = record { scheduled = scheduled; small = small; from = ran.from; upto = omega (arith, last) }
 
         pub round-fits : page.at + length (round_line s k round) ≤ length page.text.now

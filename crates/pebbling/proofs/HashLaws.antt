@@ -104,7 +104,7 @@ schedule_3 s k r e = rw e refl
 
 -- ---- the hashes that are left, and those that are done
 
-curve_fits : (k n l : ℕ) → k ≤ 22 → n ≤ 1048576 → n * (k - l) ≤ 23068672
+pub curve_fits : (k n l : ℕ) → k ≤ 22 → n ≤ 1048576 → n * (k - l) ≤ 23068672
 curve_fits k n l h b = let d : k - l ≤ 22 = omega arith in omega (arith, mul-le-mul b d)
 
 pub curve_law : (k n l p : ℕ) → k ≤ 22 → n ≤ 1048576 → Bits n l → Power l p → Curve k n (n * (k - l) + p)
@@ -166,7 +166,7 @@ module _ (k r half : ℕ) (0<k : 0 < k) (0<r : 0 < r) (h : r < 2 ^ k) (p : Power
         (omega (arith, two_halves k 0<k), record { is = omega arith; small = omega arith })
 
     module _ (c : ℕ) (a : Left k r c) where
-      left_asked : (2 ^ k ≤ c) × (c ≤ 2 ^ k + 2 ^ (k - 1))
+      pub left_asked : (2 ^ k ≤ c) × (c ≤ 2 ^ k + 2 ^ (k - 1))
       left_asked = (omega arith, omega (arith, two_halves k 0<k))
 
       pub busy_optimal : (x : ℕ) → x ≡ left k (c - 2 ^ k) → (x ≤ whole - 1) × Done optimal k r (whole - 1 - x)

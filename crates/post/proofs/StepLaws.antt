@@ -14,7 +14,7 @@ use Rattle.std.specs.Prelude.{None, Some}
 use Rattle.post.specs.Search.{least, fewest}
 use Rattle.post.specs.Fewest.{least_kept}
 
-abbrev fits : Chain → List ℕ → List ℕ → ℕ → Bool
+abbrev pub fits : Chain → List ℕ → List ℕ → ℕ → Bool
 fits c held value g = same (chain (step c) value g) held
 
 -- before the search looks at g: the value has been stepped on g - 1 times, and none that it has looked at fits

@@ -16,10 +16,10 @@ use Rattle.post.specs.Sound.{Enrollable}
 -- ---- put
 
 -- the anchor and the value held stand within a record of 40 bytes
-fields_within : (head : Head) (w : ℕ) → w ≡ width_of head → 8 + w + w ≤ 40
+pub fields_within : (head : Head) (w : ℕ) → w ≡ width_of head → 8 + w + w ≤ 40
 fields_within head w wide = omega (arith, wide, width_small (chain_of head))
 
-head_length : (head : Head) → length (head_bytes head) ≡ 8
+pub head_length : (head : Head) → length (head_bytes head) ≡ 8
 unfolding head_bytes
 head_length head = refl
 
@@ -28,11 +28,11 @@ module _ (head : Head) (held post : List ℕ) (wide_held : length held ≡ width
   mid_is : mid ≡ head_bytes head ++ drop 8 post
   mid_is = m ∙ rw (e, head_length head) refl
 
-  mid_length : length mid ≡ length post
+  pub mid_length : length mid ≡ length post
   mid_length = ap length m ∙ over_length bytes post (omega (arith, ap length e, head_length head, long))
 
   -- there is room for the value behind the anchor
-  held_room : 8 + w + length held ≤ length mid
+  pub held_room : 8 + w + length held ≤ length mid
   held_room = omega (arith, fields_within head w wide, mid_length, long, wide_held)
 
   pub put_both : (y : List ℕ) → y ≡ over held (take (length mid - (8 + w)) (drop (8 + w) mid))
@@ -60,7 +60,7 @@ module _ (head : Head) (held post : List ℕ) (wide_held : length held ≡ width
 -- ---- lay
 
 module _ (head : Head) (anchor post : List ℕ) (ok : Enrollable anchor post head) where
-  anchor_fits : 8 + length anchor ≤ length post
+  pub anchor_fits : 8 + length anchor ≤ length post
   anchor_fits = omega (arith, ok.anchored, ok.long, width_small (chain_of head))
 
   module _ (mid y : List ℕ) (m : mid ≡ put_mid 8 (length post - 8) post y) (q : y ≡ over anchor (take (length post - 8) (drop 8 post))) where

@@ -135,7 +135,7 @@ module _ {chain : Chain} {s k r : ℕ} {old new : List ℕ} {w h n x : ℕ} (p :
 -- ---- round 2^k
 
 module _ (chain : Chain) (k : ℕ) (old new : List ℕ) {w : ℕ} (we : w ≡ width chain) (enough : width chain * suc k ≤ length old) (room : width chain * k ≤ length new) where
-  put_out_fits : (w + k * w ≤ length old) × (k * w ≤ length new)
+  pub put_out_fits : (w + k * w ≤ length old) × (k * w ≤ length new)
   put_out_fits = (omega (arith, rw (← we) at enough), omega (arith, rw (← we) at room))
 
   pub put_out_moves : {new' : List ℕ} → new' ≡ over (take (w + k * w - w) (drop w old)) new
